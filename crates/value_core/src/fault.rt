@@ -1,0 +1,3 @@
+/// A call that takes memory found none.
+#[derive(Clone, Copy, Debug, PartialEq, Eq)]
+pub struct OutOfMemory;
