@@ -1,3 +1,2 @@
-pub mod Integer
 pub mod Value
 pub mod Word
