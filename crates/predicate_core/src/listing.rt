@@ -1,4 +1,4 @@
-ghost use Rattle.std.specs.Prelude.{◌≡◌, ◌++◌, ◌+◌, ◌<◌, ◌≤◌, length, drop, if◌then◌else◌, IfOk, OnOk, [], map};
+ghost use Rattle.std.specs.Prelude.{◌≡◌, ◌∷◌, ◌++◌, ◌+◌, ◌<◌, ◌≤◌, length, drop, if◌then◌else◌, IfOk, OnOk, [], map};
 ghost use Rattle.predicate_core.specs.Atoms.{comparisons, column_with_columns, columns_compared, column_with_constants, constants_compared, null_tests, atom_list};
 ghost use Rattle.value_core.specs.Value.{same_type, is_of_type};
 ghost use Rattle.predicate_core.specs.declared.atom.Atom.TheVariants.{Cols, Const, IsNull, NotNull};
@@ -121,13 +121,20 @@ fn push_constants_compared(
     Ok(())
 }
 
+// Appends column i's tests for NULL.
+fn push_null_test(atoms: &mut Items<Atom>, i: usize) -> Result<(), AllocError>
+    ensures { OnOk result (atoms.new ≡ atoms.old ++ IsNull i ∷ NotNull i ∷ []) }
+{
+    atoms.push(Atom::IsNull(i))?;
+    atoms.push(Atom::NotNull(i))
+}
+
 // Appends each column's tests for NULL.
 fn push_null_tests(atoms: &mut Items<Atom>, types: &[ColType]) -> Result<(), AllocError>
     ensures { OnOk result (atoms.new ≡ atoms.old ++ null_tests 0 types.now) }
 {
     for i in 0..types.len() {
-        atoms.push(Atom::IsNull(i))?;
-        atoms.push(Atom::NotNull(i))?;
+        push_null_test(atoms, i)?;
     }
     Ok(())
 }

@@ -1,13 +1,17 @@
-// A library with one function.
+//! Tables as bags of typed rows, and tasks within their limits.
 #![tactic(auto)]
 
-ghost use Rattle.std.specs.Prelude.{◌≡◌};
-ghost use Rattle.table_core.specs.Echo.{echo_of};
+mod agg_set;
+mod bag;
+mod column;
+mod limits;
+mod table;
+mod task;
+mod tuple;
 
-// The `ensures` clause is the contract: what `echo` returns is `echo_of` of its argument, a definition
-// in `specs/Echo.antt`, which a caller's clause can cite too.
-pub fn echo(x: usize) -> usize
-    ensures { result ≡ echo_of x }
-{
-    x
-}
+pub use agg_set::AggSet;
+pub use bag::{count, has_double, has_double_row, same_bag, same_cells, same_rows};
+pub use column::Column;
+pub use table::{PushFault, Table};
+pub use task::{BadPart, Task, TaskParts};
+pub use tuple::Tuple;
