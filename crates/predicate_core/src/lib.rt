@@ -2,9 +2,11 @@
 #![tactic(auto)]
 
 mod atom;
+mod equal;
 mod listing;
 mod pred;
 
 pub use atom::Atom;
+pub use equal::{atom_count, has_constant, same_pred};
 pub use listing::atoms;
 pub use pred::{Pred, keeps, truth};

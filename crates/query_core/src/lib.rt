@@ -1,13 +1,8 @@
-// A library with one function.
+//! Queries: trees of operators over the inputs, with their columns, meaning, grammar, standard form and rank as definitions.
 #![tactic(auto)]
 
-ghost use Rattle.std.specs.Prelude.{◌≡◌};
-ghost use Rattle.query_core.specs.Echo.{echo_of};
+mod node;
+mod query;
 
-// The `ensures` clause is the contract: what `echo` returns is `echo_of` of its argument, a definition
-// in `specs/Echo.antt`, which a caller's clause can cite too.
-pub fn echo(x: usize) -> usize
-    ensures { result ≡ echo_of x }
-{
-    x
-}
+pub use node::Node;
+pub use query::Query;
