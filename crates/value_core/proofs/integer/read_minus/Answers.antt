@@ -1,4 +1,4 @@
-use Rattle.std.proofs.Common.{◌∙◌, rules, ◌≡◌, true, length, drop, take, ◌-◌, arith}
+use Rattle.std.proofs.Common.{◌∙◌, ◌≡◌, true, length, drop, take, ◌-◌, arith}
 use Rattle.std.proofs.lemmas.Grind.{common_steps}
 use Rattle.value_core.specs.Integer.{is_numeral}
 use Rattle.value_core.proofs.Numerals.{parsed_minus}
