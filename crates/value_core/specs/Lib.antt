@@ -1,2 +1,3 @@
+pub mod Integer
 pub mod Value
 pub mod Word
