@@ -1,4 +1,4 @@
-ghost use Rattle.std.specs.Prelude.{◌≡◌, ◌∷◌, ◌++◌, [], IfOk, OnOk, map};
+ghost use Rattle.std.specs.Prelude.{◌≡◌, ◌∷◌, ◌++◌, [], IfOk, OnOk, map, if◌then◌else◌};
 ghost use Rattle.std.specs.List.{list_any};
 ghost use Rattle.value_core.specs.Value.{same};
 ghost use Rattle.predicate_core.specs.Truth.{value_at};
@@ -101,4 +101,27 @@ fn has_row(rows: &[Tuple], row: &[Value]) -> bool
     ensures { result ≡ list_any (λ r. same_cells r row.now) rows.now }
 {
     rows.iter().any(|r| same_cells(r.cells(), row))
+}
+
+// Appends a copy of a row, if it isn't among the rows so far.
+fn push_first(alloc: Global, out: &mut Items<Tuple>, row: &Tuple) -> Result<(), OutOfMemory>
+    ensures { OnOk result (out.new ≡ out.old ++ (if list_any (λ r. same_cells r row.now) out.old then [] else row.now ∷ [])) }
+{
+    if has_row(out.as_slice(), row.cells()) {
+        Ok(())
+    } else {
+        out.push(row.copy(alloc)?).map_err(|_| OutOfMemory)
+    }
+}
+
+/// Each of these rows once, at its first place.
+#[tactic(auto, using(crate::proofs::FirstLaws::firsts_push))]
+pub fn first_rows(alloc: Global, rows: &[Tuple]) -> Result<Items<Tuple>, OutOfMemory>
+    ensures { IfOk result (λ out. out ≡ firsts rows.now) }
+{
+    let mut out = Items::new(alloc);
+    for row in rows {
+        push_first(alloc, &mut out, row)?;
+    }
+    Ok(out)
 }

@@ -36,9 +36,13 @@ firsts (row ∷ others) = row ∷ list_filter (λ r. not (same_cells r row)) (fi
 abbrev pub selected : List ℕ → List Row → List Row
 selected picks body = map (projected picks) body
 
+-- the rows of a body, projected, and each kept once where distinct
+abbrev pub given_rows : List ℕ → Bool → List Row → List Row
+given_rows picks distinct body = if distinct then firsts (selected picks body) else selected picks body
+
 -- the rows that a query gives for the rows of its body
 abbrev pub given : Select → List Row → List Row
-given q body = if q.distinct then firsts (selected q.picks body) else selected q.picks body
+given q body = given_rows q.picks q.distinct body
 
 -- the rows that a query gives, in order
 abbrev pub answer : TaskParts → Select → Option (List Row)

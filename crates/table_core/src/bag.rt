@@ -22,8 +22,8 @@ pub fn same_cells(a: &[Value], b: &[Value]) -> bool
     true
 }
 
-// The number of places of a row in a list of rows.
-fn count_in(rows: &[Tuple], row: &[Value]) -> usize
+/// The number of places of a row in a list of rows.
+pub fn count_in(rows: &[Tuple], row: &[Value]) -> usize
     ensures { result ≡ count rows.now row.now }
 {
     rows.iter().filter(|r| same_cells(r.cells(), row)).count()

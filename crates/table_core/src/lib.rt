@@ -10,7 +10,7 @@ mod task;
 mod tuple;
 
 pub use agg_set::AggSet;
-pub use bag::{count, has_double, has_double_row, same_bag, same_cells, same_rows};
+pub use bag::{count, count_in, has_double, has_double_row, same_bag, same_cells, same_rows};
 pub use column::Column;
 pub use table::{PushFault, Table};
 pub use task::{BadPart, Task, TaskParts};
