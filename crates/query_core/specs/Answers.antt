@@ -28,15 +28,19 @@ pub record RankedQuery : Type 0 where
 abbrev pub ranked : TaskParts → Numbered → RankedQuery
 ranked task n = record { key = key task n.skeleton n.query; query = n.query }
 
--- a query put among ranked ones, behind those that don't come after it
-abbrev pub placed : RankedQuery → List RankedQuery → List RankedQuery
-placed x [] = x ∷ []
-placed x (y ∷ ys) = if before y.key x.key then y ∷ placed x ys else x ∷ y ∷ ys
+-- whether a ranked query comes strictly before another
+abbrev pub comes_before : RankedQuery → RankedQuery → Bool
+comes_before a b = before a.key b.key
 
--- ranked queries in ascending order of their keys
-abbrev pub ascending : List RankedQuery → List RankedQuery
-ascending [] = []
-ascending (x ∷ xs) = placed x (ascending xs)
+-- an element put into a list, in front of the first that doesn't come before it
+abbrev pub placed : {X : Type 0} → (X → X → Bool) → X → List X → List X
+placed first x [] = x ∷ []
+placed first x (y ∷ ys) = if first y x then y ∷ placed first x ys else x ∷ y ∷ ys
+
+-- the elements of a list in ascending order; those that tie keep their order
+abbrev pub ascending : {X : Type 0} → (X → X → Bool) → List X → List X
+ascending first [] = []
+ascending first (x ∷ xs) = placed first x (ascending first xs)
 
 -- the queries of the grammar that are standard and give the output, in the grammar's order
 abbrev pub found : TaskParts → List Numbered
@@ -44,4 +48,4 @@ found task = list_filter (λ n. is_standard task n.query && gives task n.query) 
 
 -- the answers of a task, best first
 abbrev pub answers : TaskParts → List RankedQuery
-answers task = ascending (map (ranked task) (found task))
+answers task = ascending comes_before (map (ranked task) (found task))

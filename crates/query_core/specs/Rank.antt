@@ -1,10 +1,10 @@
 -- The rank of queries: the key, compared part by part, smaller first.
-use Rattle.std.specs.Prelude.{ℕ, ◌+◌, Bool, true, false, not, ◌||◌, ◌==◌, List, [], ◌∷◌, ◌++◌, length, count_by, unwrap_or, position}
+use Rattle.std.specs.Prelude.{ℕ, ◌+◌, Bool, true, false, not, ◌||◌, ◌==◌, List, [], ◌∷◌, ◌++◌, length, count_by}
 use Rattle.std.specs.declared.cmp.Ordering.{Ordering}
 use Rattle.std.specs.declared.cmp.Ordering.TheVariants.{Less, Equal, Greater}
 use Rattle.std.specs.Ordering.{nat_cmp, ordering_then, is_lt}
 use Rattle.std.specs.Cmp.Lexicographic.{slice_cmp}
-use Rattle.std.specs.List.{range_with_len, list_any}
+use Rattle.std.specs.List.{range_with_len, list_any, position_or_len}
 use Rattle.predicate_core.specs.Atoms.{atom_list, pred_list}
 use Rattle.predicate_core.specs.Equal.{same_pred, atoms_of, uses_constant}
 use Rattle.predicate_core.specs.declared.pred.Pred.{Pred}
@@ -29,7 +29,7 @@ tree_cost (filter child p) = tree_cost child + (1 + length (atoms_of p))
 
 -- the number of a predicate: its place in the list of its hole, the list's length where it isn't there
 abbrev pub pred_number : TaskParts → Tree → Pred → ℕ
-pred_number task child p = unwrap_or (position (same_pred p) (predicates task child)) (length (predicates task child))
+pred_number task child p = position_or_len (same_pred p) (predicates task child)
 
 -- the numbers of a tree's predicates, from the left part to the right part to the node
 abbrev pub pred_numbers : TaskParts → Tree → List ℕ
@@ -61,14 +61,7 @@ key task skeleton q = record {
   distinct = q.distinct;
 }
 
--- the order of two flags: not distinct before distinct
-abbrev pub flag_order : Bool → Bool → Ordering
-flag_order false false = Equal
-flag_order false true = Less
-flag_order true false = Greater
-flag_order true true = Equal
-
--- the order of two keys, part by part
+-- the order of two keys, part by part; not distinct comes before distinct
 abbrev pub key_order : Key → Key → Ordering
 key_order a b =
     ordering_then (nat_cmp a.unused b.unused) (
@@ -76,7 +69,7 @@ key_order a b =
     ordering_then (nat_cmp a.skeleton b.skeleton) (
     ordering_then (slice_cmp nat_cmp a.numbers b.numbers) (
     ordering_then (slice_cmp nat_cmp a.picks b.picks) (
-    flag_order a.distinct b.distinct)))))
+    nat_cmp (distinct_cost a.distinct) (distinct_cost b.distinct))))))
 
 -- whether a key comes strictly before another
 abbrev pub before : Key → Key → Bool

@@ -1,13 +1,10 @@
-// A library with one function.
+//! Rank: the key of a query, the order of keys, and answers in ascending order.
 #![tactic(auto)]
 
-ghost use Rattle.std.specs.Prelude.{◌≡◌};
-ghost use Rattle.rank_core.specs.Echo.{echo_of};
+mod body;
+mod rank_key;
+mod ranked;
 
-// The `ensures` clause is the contract: what `echo` returns is `echo_of` of its argument, a definition
-// in `specs/Echo.antt`, which a caller's clause can cite too.
-pub fn echo(x: usize) -> usize
-    ensures { result ≡ echo_of x }
-{
-    x
-}
+pub use body::pred_number;
+pub use rank_key::{RankKey, before, key, key_order};
+pub use ranked::{Ranked, sort};

@@ -1,0 +1,88 @@
+ghost use Rattle.std.specs.Prelude.{◌≡◌, ◌<◌, ◌+◌, ◌^◌, IfOk};
+ghost use Rattle.query_core.specs.Rank.{Key, key, key_order, before, distinct_cost, tree_cost, pred_numbers};
+ghost use Rattle.query_core.specs.View.{tree, select};
+
+use crate::body::{tree_cost, unused_constants};
+use query_core::Query;
+use sqlite_items::Items;
+use std::alloc::Global;
+use std::cmp::Ordering;
+use std::marker::Model;
+use table_core::TaskParts;
+use value_core::OutOfMemory;
+
+/// What queries are ranked by: unused constants, cost, skeleton, predicate numbers, map and distinct.
+#[derive(Debug, Drop)]
+pub struct RankKey {
+    unused: usize,
+    cost: u64,
+    skeleton: u32,
+    numbers: Items<usize>,
+    picks: Items<usize>,
+    distinct: bool,
+}
+
+impl Model for RankKey {
+    ghost use Rattle.query_core.specs.Rank.{Key};
+
+    ghost Value = { Key };
+
+    ghost view = { λ k. record { unused = k.unused; cost = k.cost; skeleton = k.skeleton; numbers = k.numbers; picks = k.picks; distinct = k.distinct } };
+}
+
+// The cost of removing duplicates.
+fn distinct_cost(distinct: bool) -> u64
+    ensures { result ≡ distinct_cost distinct }
+{
+    if distinct { 1 } else { 0 }
+}
+
+/// The key of a query, given its skeleton's number and the numbers of its predicates.
+pub fn key(
+    alloc: Global,
+    task: &TaskParts,
+    skeleton: u32,
+    query: &Query,
+    numbers: &[usize],
+) -> Result<RankKey, OutOfMemory>
+    requires numbered { numbers.now ≡ pred_numbers task.now (tree query.now.body) }
+    requires small { tree_cost (tree query.now.body) < 2 ^ 32 }
+    ensures { IfOk result (λ k. k ≡ key task.now skeleton (select query.now)) }
+{
+    let unused = unused_constants(task, &query.body);
+    let cost = tree_cost(&query.body) + distinct_cost(query.distinct);
+    let numbers = Items::from_slice(alloc, numbers).map_err(|_| OutOfMemory)?;
+    let picks = Items::from_slice(alloc, query.map.as_slice()).map_err(|_| OutOfMemory)?;
+    Ok(RankKey {
+        unused,
+        cost,
+        skeleton,
+        numbers,
+        picks,
+        distinct: query.distinct,
+    })
+}
+
+/// The order of two keys, part by part.
+pub fn key_order(a: &RankKey, b: &RankKey) -> Ordering
+    ensures { result ≡ key_order a.now b.now }
+{
+    let by_lists = a
+        .numbers
+        .as_slice()
+        .cmp(b.numbers.as_slice())
+        .then(a.picks.as_slice().cmp(b.picks.as_slice()))
+        .then(distinct_cost(a.distinct).cmp(&distinct_cost(b.distinct)));
+    a.unused
+        .cmp(&b.unused)
+        .then(a.cost.cmp(&b.cost))
+        .then(a.skeleton.cmp(&b.skeleton))
+        .then(by_lists)
+}
+
+/// Whether a key comes strictly before another.
+pub fn before(a: &RankKey, b: &RankKey) -> bool
+    ensures { result ≡ before a.now b.now }
+{
+    key_order(a, b).is_lt()
+}
