@@ -8,5 +8,5 @@ mod pred;
 
 pub use atom::Atom;
 pub use equal::{atom_count, has_constant, same_pred};
-pub use listing::atoms;
+pub use listing::{atoms, single_preds};
 pub use pred::{Pred, keeps, truth};

@@ -42,9 +42,13 @@ abbrev pub ascending : {X : Type 0} → (X → X → Bool) → List X → List X
 ascending first [] = []
 ascending first (x ∷ xs) = placed first x (ascending first xs)
 
--- the queries of the grammar that are standard and give the output, in the grammar's order
+-- whether a query is an answer: it is standard and gives the output
+abbrev pub is_answer : TaskParts → Numbered → Bool
+is_answer task n = is_standard task n.query && gives task n.query
+
+-- the answers in the grammar's order
 abbrev pub found : TaskParts → List Numbered
-found task = list_filter (λ n. is_standard task n.query && gives task n.query) (queries task)
+found task = list_filter (is_answer task) (queries task)
 
 -- the answers of a task, best first
 abbrev pub answers : TaskParts → List RankedQuery
