@@ -3,4 +3,8 @@
 
 mod body;
 mod columns;
+mod filters;
 mod listing;
+mod search;
+
+pub use search::plain;
