@@ -1,0 +1,5 @@
+pub mod Files
+pub mod Gained
+pub mod MemFolder
+pub mod MemSink
+pub mod Rose
