@@ -7,8 +7,12 @@ use Rattle.std.proofs.lemmas.List.Elements.{filter-append}
 use Rattle.predicate_core.specs.declared.pred.Pred.{Pred}
 use Rattle.table_core.specs.declared.task.TaskParts.{TaskParts}
 use Rattle.query_core.specs.Tree.{Tree, Select, base, filter}
-use Rattle.query_core.specs.Grammar.{Numbered, with_flags, queries_of_body, filter_predicates}
-use Rattle.query_core.specs.Standard.{is_standard_tree, is_standard_filter}
+use Rattle.query_core.specs.Grammar.{Numbered, with_flags, queries_of_body, filter_predicates, predicates}
+use Rattle.query_core.specs.Standard.{is_standard_tree, is_standard_filter, first_alike, keeps_all}
+use Rattle.query_core.specs.Meaning.{input_at}
+use Rattle.predicate_core.specs.Equal.{same_pred}
+use Rattle.table_core.specs.Rows.{Row}
+use Rattle.value_core.specs.declared.value.Value.{Value}
 use Rattle.query_core.specs.Answers.{RankedQuery, ranked, is_answer, found}
 use Rattle.plain_search.specs.Kept.{kept}
 
@@ -30,6 +34,12 @@ kept_none task n body (picks ∷ maps) other = rw other (kept_none task n body m
 
 pub kept_nonstandard : (task : TaskParts) (n : ℕ) (p : Pred) → is_standard_filter task (base 0) p ≡ false → kept task n (queries_of_body task (filter (base 0) p)) ≡ []
 kept_nonstandard task n p other = kept_none task n (filter (base 0) p) _ other
+
+-- whether a filter over the first input is standard, by what equals the input's rows and predicates
+pub standard_filter_is : (task : TaskParts) (p : Pred) (constants : List Value) (found : List Row) (preds : List Pred)
+    → constants ≡ task.constants → found ≡ (input_at task 0).rows → preds ≡ predicates task (base 0)
+    → is_standard_filter task (base 0) p ≡ (same_pred (first_alike constants found preds p) p && not (keeps_all constants found p))
+standard_filter_is task p constants found preds same_constants same_rows same_preds = rw (same_constants, same_rows, same_preds) refl
 
 -- to join what a function gives of the mapped elements
 pub flat_map_map : {X Y Z : Type 0} (g : Y → List Z) (f : X → Y) (xs : List X) → flat_map g (map f xs) ≡ flat_map (λ x. g (f x)) xs
