@@ -1,5 +1,5 @@
 -- Values, their order, and SQL's comparison of them.
-use Rattle.std.specs.Prelude.{ℕ, Bool, true, false, not, if◌then◌else◌}
+use Rattle.std.specs.Prelude.{Bool, true, false, if◌then◌else◌}
 use Rattle.std.specs.declared.cmp.Ordering.{Ordering}
 use Rattle.std.specs.declared.cmp.Ordering.TheVariants.{Less, Equal, Greater}
 use Rattle.std.specs.Ordering.{nat_cmp, int_cmp, is_eq, is_ne, is_lt, is_le, is_gt, is_ge}
@@ -56,3 +56,18 @@ fits kind.Int (Text s) = false
 fits kind.Text Null = true
 fits kind.Text (Int n) = false
 fits kind.Text (Text s) = true
+
+-- whether two types are the same
+abbrev pub same_type : ColType → ColType → Bool
+same_type kind.Int kind.Int = true
+same_type kind.Int kind.Text = false
+same_type kind.Text kind.Int = false
+same_type kind.Text kind.Text = true
+
+-- whether a value is of a type; NULL is of none
+abbrev pub is_of_type : ColType → Value → Bool
+is_of_type t Null = false
+is_of_type kind.Int (Int n) = true
+is_of_type kind.Int (Text s) = false
+is_of_type kind.Text (Int n) = false
+is_of_type kind.Text (Text s) = true

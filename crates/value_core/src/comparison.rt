@@ -1,4 +1,6 @@
 ghost use Rattle.std.specs.Prelude.{◌≡◌};
+ghost use Rattle.std.specs.Bool.{Decides};
+ghost use Rattle.std.specs.Cmp.{IsTotalOrder};
 ghost use Rattle.value_core.specs.Value.{order, same, compare};
 
 use crate::value::Value;
@@ -62,6 +64,18 @@ pub fn same(a: &Value, b: &Value) -> bool
 {
     order(a, b) == Ordering::Equal
 }
+
+/// The law of `order`: it is a total order.
+#[tactic(auto, using(crate::proofs::ValueLaws::order_total))]
+pub fn order_is_total()
+    ensures { IsTotalOrder order }
+{}
+
+/// The law of `same`: it tells exactly the values that are equal.
+#[tactic(auto, using(crate::proofs::ValueLaws::same_decides))]
+pub fn same_is_equality(a: &Value, b: &Value)
+    ensures { Decides (same a.now b.now) (a.now ≡ b.now) }
+{}
 
 /// SQL's comparison: unknown exactly where a side is NULL.
 pub fn compare(op: CmpOp, a: &Value, b: &Value) -> Truth

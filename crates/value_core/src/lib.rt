@@ -9,8 +9,11 @@ mod value;
 mod word;
 
 pub use bytes::Bytes;
-pub use comparison::{CmpOp, Truth, compare, order, same};
+pub use comparison::{CmpOp, Truth, compare, order, order_is_total, same, same_is_equality};
 pub use fault::OutOfMemory;
 pub use integer::read_int;
 pub use value::{ColType, Value};
 pub use word::{Word, WordFault};
+
+#[cfg(test)]
+mod tests;

@@ -19,6 +19,33 @@ pub enum Value {
     Text(Word),
 }
 
+impl ColType {
+    ghost use Rattle.value_core.specs.Value.{fits, is_of_type};
+
+    /// Whether a value is of this type, which NULL isn't.
+    pub fn is_type_of(self, value: &Value) -> bool
+        ensures { result ≡ is_of_type self value.now }
+    {
+        match (self, value) {
+            (ColType::Int, Value::Int(_)) => true,
+            (ColType::Text, Value::Text(_)) => true,
+            _ => false,
+        }
+    }
+
+    /// Whether a value may stand in a column of this type: NULL, or a value of it.
+    pub fn fits(self, value: &Value) -> bool
+        ensures { result ≡ fits self value.now }
+    {
+        match (self, value) {
+            (_, Value::Null) => true,
+            (ColType::Int, Value::Int(_)) => true,
+            (ColType::Text, Value::Text(_)) => true,
+            _ => false,
+        }
+    }
+}
+
 impl Value {
     /// An equal value.
     pub fn copy(&self, alloc: Global) -> Result<Value, OutOfMemory>

@@ -1,0 +1,8 @@
+//! Evaluation: the steps by which a query's rows are found, each exactly its definition as a list.
+#![tactic(auto)]
+
+mod filter;
+mod select;
+
+pub use filter::{keep_rows, keeps_all_rows, keeps_same_rows};
+pub use select::{has_double_selected, select_rows};

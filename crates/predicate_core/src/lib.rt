@@ -1,0 +1,12 @@
+//! Atoms and predicates: their lists in order, and which rows they keep.
+#![tactic(auto)]
+
+mod atom;
+mod equal;
+mod listing;
+mod pred;
+
+pub use atom::Atom;
+pub use equal::{atom_count, has_constant, same_pred};
+pub use listing::atoms;
+pub use pred::{Pred, keeps, truth};

@@ -1,0 +1,83 @@
+-- The rank of queries: the key, compared part by part, smaller first.
+use Rattle.std.specs.Prelude.{ℕ, ◌+◌, Bool, true, false, not, ◌||◌, ◌==◌, List, [], ◌∷◌, ◌++◌, length, count_by, unwrap_or, position}
+use Rattle.std.specs.declared.cmp.Ordering.{Ordering}
+use Rattle.std.specs.declared.cmp.Ordering.TheVariants.{Less, Equal, Greater}
+use Rattle.std.specs.Ordering.{nat_cmp, ordering_then, is_lt}
+use Rattle.std.specs.Cmp.Lexicographic.{slice_cmp}
+use Rattle.std.specs.List.{range_with_len, list_any}
+use Rattle.predicate_core.specs.Atoms.{atom_list, pred_list}
+use Rattle.predicate_core.specs.Equal.{same_pred, atoms_of, uses_constant}
+use Rattle.predicate_core.specs.declared.pred.Pred.{Pred}
+use Rattle.predicate_core.specs.declared.atom.Atom.{Atom}
+use Rattle.table_core.specs.declared.task.TaskParts.{TaskParts}
+use Rattle.query_core.specs.Tree.{Tree, Select, base, filter}
+use Rattle.query_core.specs.Grammar.{predicates}
+
+-- the atoms of a tree, from the left part to the right part to the node
+abbrev pub tree_atoms : Tree → List Atom
+tree_atoms (base table) = []
+tree_atoms (filter child p) = tree_atoms child ++ atoms_of p
+
+-- how many of the task's constants stand in no atom
+abbrev pub unused_constants : TaskParts → Tree → ℕ
+unused_constants task body = count_by (λ k. not (list_any (uses_constant k) (tree_atoms body))) (range_with_len 0 (length task.constants))
+
+-- the cost of a tree: each kind of node has its own, and each atom costs 1
+abbrev pub tree_cost : Tree → ℕ
+tree_cost (base table) = 1
+tree_cost (filter child p) = tree_cost child + (1 + length (atoms_of p))
+
+-- the number of a predicate: its place in the list of its hole, the list's length where it isn't there
+abbrev pub pred_number : TaskParts → Tree → Pred → ℕ
+pred_number task child p = unwrap_or (position (same_pred p) (predicates task child)) (length (predicates task child))
+
+-- the numbers of a tree's predicates, from the left part to the right part to the node
+abbrev pub pred_numbers : TaskParts → Tree → List ℕ
+pred_numbers task (base table) = []
+pred_numbers task (filter child p) = pred_numbers task child ++ pred_number task child p ∷ []
+
+-- what queries are ranked by
+pub record Key : Type 0 where
+  pub unused : ℕ
+  pub cost : ℕ
+  pub skeleton : ℕ
+  pub numbers : List ℕ
+  pub picks : List ℕ
+  pub distinct : Bool
+
+-- the cost of removing duplicates
+abbrev pub distinct_cost : Bool → ℕ
+distinct_cost false = 0
+distinct_cost true = 1
+
+-- the key of a query whose skeleton has this number
+abbrev pub key : TaskParts → ℕ → Select → Key
+key task skeleton q = record {
+  unused = unused_constants task q.body;
+  cost = tree_cost q.body + distinct_cost q.distinct;
+  skeleton = skeleton;
+  numbers = pred_numbers task q.body;
+  picks = q.picks;
+  distinct = q.distinct;
+}
+
+-- the order of two flags: not distinct before distinct
+abbrev pub flag_order : Bool → Bool → Ordering
+flag_order false false = Equal
+flag_order false true = Less
+flag_order true false = Greater
+flag_order true true = Equal
+
+-- the order of two keys, part by part
+abbrev pub key_order : Key → Key → Ordering
+key_order a b =
+    ordering_then (nat_cmp a.unused b.unused) (
+    ordering_then (nat_cmp a.cost b.cost) (
+    ordering_then (nat_cmp a.skeleton b.skeleton) (
+    ordering_then (slice_cmp nat_cmp a.numbers b.numbers) (
+    ordering_then (slice_cmp nat_cmp a.picks b.picks) (
+    flag_order a.distinct b.distinct)))))
+
+-- whether a key comes strictly before another
+abbrev pub before : Key → Key → Bool
+before a b = is_lt (key_order a b)

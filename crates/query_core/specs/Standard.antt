@@ -1,0 +1,50 @@
+-- The standard form: the first predicate of those that keep the same rows, and nothing that changes nothing.
+use Rattle.std.specs.Prelude.{ℕ, Bool, true, false, not, ◌&&◌, ◌||◌, ◌==◌, List, [], ◌∷◌, unwrap_or, find, Option, Some, None, if◌then◌else◌}
+use Rattle.std.specs.List.{list_all}
+use Rattle.value_core.specs.declared.value.Value.{Value}
+use Rattle.value_core.specs.declared.comparison.CmpOp.{CmpOp}
+use Rattle.value_core.specs.declared.comparison.CmpOp.TheVariants.{Eq, Ne, Lt, Le, Gt, Ge}
+use Rattle.predicate_core.specs.Equal.{same_pred}
+use Rattle.predicate_core.specs.Truth.{keeps}
+use Rattle.predicate_core.specs.declared.pred.Pred.{Pred}
+use Rattle.table_core.specs.Rows.{Row}
+use Rattle.table_core.specs.Bag.{has_double}
+use Rattle.table_core.specs.declared.task.TaskParts.{TaskParts}
+use Rattle.query_core.specs.Tree.{Tree, Select, base, filter}
+use Rattle.query_core.specs.Meaning.{rows, selected}
+use Rattle.query_core.specs.Grammar.{predicates}
+
+-- whether two truth values are the same
+abbrev pub same_bool : Bool → Bool → Bool
+same_bool true b = b
+same_bool false b = not b
+
+-- whether two predicates keep the same of some rows
+abbrev pub alike : List Value → List Row → Pred → Pred → Bool
+alike constants candidates p q = list_all (λ row. same_bool (keeps constants p row) (keeps constants q row)) candidates
+
+-- the first predicate of a list that keeps the same rows as p; p itself where there is none
+abbrev pub first_alike : List Value → List Row → List Pred → Pred → Pred
+first_alike constants candidates preds p = unwrap_or (find (alike constants candidates p) preds) p
+
+-- whether a predicate keeps all of some rows
+abbrev pub keeps_all : List Value → List Row → Pred → Bool
+keeps_all constants candidates p = list_all (keeps constants p) candidates
+
+-- the rows that a hole's predicate chooses from
+abbrev pub candidates : TaskParts → Tree → List Row
+candidates task child = unwrap_or (rows task child) []
+
+-- whether a filter's predicate is standard: the first of those alike, and not one that keeps all
+abbrev pub is_standard_filter : TaskParts → Tree → Pred → Bool
+is_standard_filter task child p =
+    same_pred (first_alike task.constants (candidates task child) (predicates task child) p) p && not (keeps_all task.constants (candidates task child) p)
+
+-- whether each predicate of a tree is standard
+abbrev pub is_standard_tree : TaskParts → Tree → Bool
+is_standard_tree task (base table) = true
+is_standard_tree task (filter child p) = is_standard_tree task child && is_standard_filter task child p
+
+-- whether a query is standard: its predicates are, and where it removes duplicates there are some
+abbrev pub is_standard : TaskParts → Select → Bool
+is_standard task q = is_standard_tree task q.body && (not q.distinct || has_double (selected q.picks (candidates task q.body)))

@@ -1,0 +1,8 @@
+//! Queries: trees of operators over the inputs, with their columns, meaning, grammar, standard form and rank as definitions.
+#![tactic(auto)]
+
+mod node;
+mod query;
+
+pub use node::Node;
+pub use query::Query;

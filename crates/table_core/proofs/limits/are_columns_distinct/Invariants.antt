@@ -1,0 +1,7 @@
+use Rattle.std.proofs.Common.{◌≡◌, drop}
+use Rattle.table_core.specs.Limits.{all_distinct}
+use Rattle.table_core.specs.Limits.{same_column_name}
+use Rattle.table_core.proofs.limits.are_columns_distinct.Given as goal
+
+abbrev pub invariant-loop-i : goal.invariant-loop-i
+invariant-loop-i l = all_distinct same_column_name l.columns ≡ all_distinct same_column_name (drop l.i l.columns)
