@@ -1,0 +1,10 @@
+//! The records of a text of comma-separated fields, all at once.
+#![tactic(auto)]
+
+mod reading;
+mod record;
+#[cfg(test)]
+mod tests;
+
+pub use reading::read_records;
+pub use record::Record;

@@ -1,0 +1,46 @@
+ghost use Rattle.std.specs.Prelude.{◌≡◌, IfOk, option_map};
+ghost use Rattle.table_read.specs.Table.{is_repeated, name_of, names_of};
+
+use crate::cell::{field, word_of};
+use csv_records::Record;
+use std::alloc::Global;
+use value_core::{OutOfMemory, Word};
+
+// Whether a name is one of the earlier ones.
+fn is_repeated(earlier: &[Word], name: &[u8]) -> bool
+    ensures { result ≡ is_repeated earlier.now name.now }
+{
+    earlier.iter().any(|word| word.as_slice() == name)
+}
+
+// The name of a column after those with the earlier names, if it may stand there.
+fn name_of(alloc: Global, earlier: &[Word], name: &[u8]) -> Result<Option<Word>, OutOfMemory>
+    ensures { IfOk result (λ word. word ≡ name_of earlier.now name.now) }
+{
+    if is_repeated(earlier, name) {
+        return Ok(None);
+    }
+    word_of(alloc, name)
+}
+
+#[tactic(auto, using(crate::proofs::HeaderFacts::names_more, crate::proofs::HeaderFacts::names_none), unfolding(crate::specs::Table::names_of))]
+/// The names of a table's columns, if the header gives good ones.
+pub(crate) fn names_of(
+    alloc: Global,
+    widest: usize,
+    header: &Record,
+) -> Result<Option<Vec<Word>>, OutOfMemory>
+    ensures { IfOk result (λ names. option_map (λ v. v.items) names ≡ names_of widest header.now) }
+{
+    if header.len() > widest {
+        return Ok(None);
+    }
+    let mut names = Vec::new(alloc);
+    for at in 0..header.len() {
+        match name_of(alloc, names.as_slice(), field(header, at))? {
+            Some(name) => names.push(name).map_err(|_| OutOfMemory)?,
+            None => return Ok(None),
+        }
+    }
+    Ok(Some(names))
+}

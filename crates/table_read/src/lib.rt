@@ -1,0 +1,12 @@
+//! A table, read from the bytes of its file.
+#![tactic(auto)]
+
+mod cell;
+mod columns;
+mod header;
+mod reading;
+mod rows;
+#[cfg(test)]
+mod tests;
+
+pub use reading::read_table;
