@@ -1,5 +1,5 @@
 -- Arrays, keys and names as lists.
-use Rattle.std.proofs.Common.{◌≡◌, ℕ, Bool, true, ◌&&◌, ◌||◌, List, [], ◌∷◌, map, length, suc, String, Global, string_bytes, Bor, refl, ap}
+use Rattle.std.proofs.Common.{◌≡◌, ℕ, Bool, ◌&&◌, ◌||◌, List, [], ◌∷◌, map, length, suc, String, Global, string_bytes, Bor, refl, ap}
 use Rattle.std.specs.List.{list_any, list_all}
 use Rattle.std.specs.Map.{keys_of}
 use Rattle.toml.specs.View.{view, items_view, members_view}

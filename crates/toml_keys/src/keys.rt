@@ -1,4 +1,4 @@
-ghost use Rattle.std.specs.Prelude.{◌≡◌, map, option_map};
+ghost use Rattle.std.specs.Prelude.{◌≡◌, ◌≤◌, IfSome, length, map, option_map};
 ghost use Rattle.toml.specs.Data.{get_member};
 ghost use Rattle.toml.specs.View.{table_view, view};
 ghost use Rattle.toml_keys.specs.Keys.{array_at, is_among, number_at, only_keys, table_at, text_at};
@@ -24,7 +24,8 @@ pub fn number_at(table: &Table, key: &str, low: u32, high: u32) -> Option<u32>
 /// The bytes of the text at a key, where it has 1 to `longest`.
 #[tactic(auto, unfolding(crate::specs::Keys::text_at))]
 pub fn text_at<'a>(table: &'a Table, key: &str, longest: usize) -> Option<&'a [u8]>
-    ensures { option_map (λ text. text.now) result ≡ text_at key.now longest (table_view table.now) }
+    ensures value { option_map (λ text. text.now) result ≡ text_at key.now longest (table_view table.now) }
+    ensures within { IfSome result (λ text. (1 ≤ length text.now) × (length text.now ≤ longest)) }
 {
     text_of(value_at(table, key)?, longest)
 }

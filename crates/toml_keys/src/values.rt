@@ -1,4 +1,4 @@
-ghost use Rattle.std.specs.Prelude.{◌≡◌, map, option_map};
+ghost use Rattle.std.specs.Prelude.{◌≡◌, ◌≤◌, IfSome, length, map, option_map};
 ghost use Rattle.toml.specs.View.{view};
 ghost use Rattle.toml_keys.specs.Keys.{array_of, number_of, text_of};
 
@@ -20,7 +20,8 @@ pub fn number_of(value: &Value, low: u32, high: u32) -> Option<u32>
 /// The bytes of the text that a value is, where it has 1 to `longest`.
 #[tactic(auto, unfolding(crate::specs::Keys::text_of))]
 pub fn text_of(value: &Value, longest: usize) -> Option<&[u8]>
-    ensures { option_map (λ text. text.now) result ≡ text_of longest (view value.now) }
+    ensures value { option_map (λ text. text.now) result ≡ text_of longest (view value.now) }
+    ensures within { IfSome result (λ text. (1 ≤ length text.now) × (length text.now ≤ longest)) }
 {
     let text = value.as_str()?.as_bytes();
     if 1 <= text.len() && text.len() <= longest {
