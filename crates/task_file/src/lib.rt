@@ -1,0 +1,11 @@
+//! The task file: its inputs, its output, its constants and how far the search goes.
+#![tactic(auto)]
+
+mod constants;
+mod fault;
+mod input;
+mod task;
+mod texts;
+
+pub use input::InputFile;
+pub use task::{TaskFile, read_task_file};

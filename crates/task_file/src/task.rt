@@ -1,0 +1,202 @@
+ghost use Rattle.std.specs.Prelude.{◌≡◌, IfOk};
+ghost use Rattle.toml.specs.View.{table_view};
+ghost use Rattle.toml_keys.specs.Keys.{number_at};
+ghost use Rattle.task_file.specs.Reading.{Reads};
+ghost use Rattle.task_file.specs.TaskFile.{output_of, task_file_of, task_of};
+
+use crate::constants::read_constants;
+use crate::fault::TaskFault;
+use crate::input::{InputFile, read_inputs};
+use crate::texts::file_at;
+use sqlite_items::Items;
+use std::alloc::Global;
+use toml::Table;
+use toml_keys::{has_only, number_at, read_document, table_at};
+use value_core::{Bytes, OutOfMemory, Value};
+
+// The largest `ops`, `leaves` and `atoms`.
+const MOST_OPS: u32 = 1;
+
+const MOST_LEAVES: u32 = 1;
+
+const MOST_ATOMS: u32 = 1;
+
+/// What a task asks for: queries over the inputs that give the output.
+#[derive(Debug, Drop)]
+pub struct TaskFile {
+    /// The tables that a query may read.
+    pub inputs: Items<InputFile>,
+    /// The file of the table that a query has to give.
+    pub output: Bytes,
+    /// The values that a query may name.
+    pub constants: Items<Value>,
+    /// The most operators of a query.
+    pub ops: u32,
+    /// The most tables that a query reads.
+    pub leaves: u32,
+    /// The most comparisons of a predicate.
+    pub atoms: u32,
+}
+
+#[tactic(auto, unfolding(crate::specs::TaskFile::output_of))]
+fn read_output(alloc: Global, table: &Table) -> Result<Bytes, TaskFault>
+    ensures { Reads result (output_of (table_view table.now)) }
+{
+    let Some(output) = table_at(table, "output") else {
+        return Err(TaskFault::WrongForm);
+    };
+    if !has_only(output, &["file"]) {
+        return Err(TaskFault::WrongForm);
+    }
+    file_at(alloc, output, "file")
+}
+
+fn read_number(table: &Table, key: &str, low: u32, high: u32) -> Result<u32, TaskFault>
+    ensures { Reads result (number_at key.now low high (table_view table.now)) }
+{
+    match number_at(table, key, low, high) {
+        Some(number) => Ok(number),
+        None => Err(TaskFault::WrongForm),
+    }
+}
+
+#[tactic(auto, unfolding(crate::specs::TaskFile::task_of))]
+fn read_task(alloc: Global, table: &Table) -> Result<TaskFile, TaskFault>
+    ensures { Reads result (task_of (table_view table.now)) }
+{
+    if !has_only(
+        table,
+        &["input", "output", "constants", "ops", "leaves", "atoms"],
+    ) {
+        return Err(TaskFault::WrongForm);
+    }
+    let inputs = read_inputs(alloc, table)?;
+    let output = read_output(alloc, table)?;
+    let constants = read_constants(alloc, table)?;
+    let ops = read_number(table, "ops", 0, MOST_OPS)?;
+    let leaves = read_number(table, "leaves", 1, MOST_LEAVES)?;
+    let atoms = read_number(table, "atoms", 1, MOST_ATOMS)?;
+    Ok(TaskFile {
+        inputs,
+        output,
+        constants,
+        ops,
+        leaves,
+        atoms,
+    })
+}
+
+/// The task that a file of these bytes writes, or `None` where they don't write one.
+#[tactic(auto, unfolding(crate::specs::TaskFile::task_file_of))]
+pub fn read_task_file(alloc: Global, bytes: &[u8]) -> Result<Option<TaskFile>, OutOfMemory>
+    ensures { IfOk result (λ task. task ≡ task_file_of bytes.now) }
+{
+    let Ok(document) = read_document(alloc, bytes) else {
+        return Err(OutOfMemory);
+    };
+    let Some(table) = document else {
+        return Ok(None);
+    };
+    match read_task(alloc, &table) {
+        Ok(task) => Ok(Some(task)),
+        Err(TaskFault::WrongForm) => Ok(None),
+        Err(TaskFault::OutOfMemory) => Err(OutOfMemory),
+    }
+}
+
+#[cfg(test)]
+mod tests {
+    use super::*;
+    use std::test::Fail;
+
+    const NUMBERS: &str = "ops = 1\nleaves = 1\natoms = 1\n";
+
+    const TABLES: &str = "[[input]]\nname = \"t\"\nfile = \"t.csv\"\n[output]\nfile = \"o.csv\"\n";
+
+    fn is_task(alloc: Global, bytes: &[u8]) -> Result<bool, Fail> {
+        let found = read_task_file(alloc, bytes).ok().ok_or("out of memory")?;
+        Ok(found.is_some())
+    }
+
+    #[test]
+    fn takes_tasks_alone(rt: HostRuntime) -> Result<(), Fail> {
+        let long =
+            "[[input]]\nname = \"aaaaaaaabbbbbbbbccccccccddddddddaaaaaaaabbbbbbbbccccccccdddddddde\"\nfile = \"t.csv\"\n[output]\nfile = \"o.csv\"\n";
+        let rows = [
+            (NUMBERS, "", TABLES, true),
+            ("ops = 0\nleaves = 1\natoms = 1\n", "", TABLES, true),
+            (
+                NUMBERS,
+                "input = [{ name = \"t\", file = \"t.csv\" }]\noutput = { file = \"o.csv\" }\n",
+                "",
+                true,
+            ),
+            (
+                NUMBERS,
+                "constants = [1, \"1\", -9223372036854775808]\n",
+                TABLES,
+                true,
+            ),
+            ("leaves = 1\natoms = 1\n", "", TABLES, false),
+            ("ops = 2\nleaves = 1\natoms = 1\n", "", TABLES, false),
+            ("ops = 1.5\nleaves = 1\natoms = 1\n", "", TABLES, false),
+            (NUMBERS, "budget = 3\n", TABLES, false),
+            (
+                NUMBERS,
+                "constants = [1, 2, 3, 4, 5, 6, 7]\n",
+                TABLES,
+                false,
+            ),
+            (NUMBERS, "constants = [\"a\", 1, \"a\"]\n", TABLES, false),
+            (NUMBERS, "constants = [\"\"]\n", TABLES, false),
+            (
+                NUMBERS,
+                "[[input]]\nname = \"s\"\nfile = \"s.csv\"\n",
+                TABLES,
+                false,
+            ),
+            (
+                NUMBERS,
+                "",
+                "[[input]]\nname = \"t\"\nfile = \"t.csv\"\nkey = 1\n[output]\nfile = \"o.csv\"\n",
+                false,
+            ),
+            (
+                NUMBERS,
+                "",
+                "[[input]]\nname = \"\"\nfile = \"t.csv\"\n[output]\nfile = \"o.csv\"\n",
+                false,
+            ),
+            (NUMBERS, "", long, false),
+            (NUMBERS, TABLES, "name = \"cut", false),
+        ];
+        for (numbers, more, tables, wanted) in rows {
+            let text = format!(in rt.alloc(); "{numbers}{more}{tables}")?;
+            assert_eq!(rt; is_task(rt.alloc(), text.as_bytes())?, wanted, "{text}");
+        }
+        let not_utf8 =
+            b"ops = 1\nleaves = 1\natoms = 1\n[[input]]\nname = \"t\"\nfile = \"\xff\"\n[output]\nfile = \"o.csv\"\n";
+        assert!(rt; !is_task(rt.alloc(), not_utf8)?);
+        Ok(())
+    }
+
+    #[test]
+    fn reads_a_task(rt: HostRuntime) -> Result<(), Fail> {
+        let text =
+            b"input = [{ name = \"t\", file = \"t.csv\" }]\noutput = { file = \"o.csv\" }\nconstants = [7, \"x\"]\nops = 0\nleaves = 1\natoms = 1\n";
+        let found = read_task_file(rt.alloc(), text)
+            .ok()
+            .ok_or("out of memory")?;
+        let task = found.ok_or("no task")?;
+        let input = task.inputs.get(0).ok_or("no input")?;
+        assert_eq!(rt; input.name.as_slice(), b"t".as_slice());
+        assert_eq!(rt; input.file.as_slice(), b"t.csv".as_slice());
+        assert_eq!(rt; task.output.as_slice(), b"o.csv".as_slice());
+        assert!(rt; matches!(task.constants.as_slice(), [Value::Int(7), Value::Text(_)]));
+        assert_eq!(rt;
+            (task.inputs.len(), task.ops, task.leaves, task.atoms),
+            (1, 0, 1, 1)
+        );
+        Ok(())
+    }
+}
