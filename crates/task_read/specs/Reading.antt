@@ -1,0 +1,22 @@
+-- What a reader answers, beside what is told.
+use Rattle.std.specs.Prelude.{◌≡◌, ℕ, List, Result, Ok, Err}
+use Rattle.task_read.specs.Told.{Told, WhenReady, MayRefuse}
+use Rattle.task_read.specs.declared.fault.TaskEnd.{TaskEnd}
+use Rattle.task_read.specs.declared.fault.TaskEnd.TheVariants.{ReadFault, WrongForm, OutOfMemory}
+
+-- a refusal for the form comes only where what is told may be refused
+abbrev pub Refuses : {A : Type 0} → Told A → TaskEnd → Type 0
+Refuses state (ReadFault file) = Unit {0}
+Refuses state WrongForm = MayRefuse state
+Refuses state OutOfMemory = Unit {0}
+
+-- what is read is what is told
+abbrev pub Reads : {A B : Type 0} → (B → A) → Told A → Result B TaskEnd → Type 0
+Reads view state (Ok x) = WhenReady state (λ y. view x ≡ y)
+Reads view state (Err end) = Refuses state end
+
+-- a fact of the file that couldn't be read
+abbrev pub IfReadFault : TaskEnd → (List ℕ → Type 0) → Type 0
+IfReadFault (ReadFault file) P = P file
+IfReadFault WrongForm P = Unit {0}
+IfReadFault OutOfMemory P = Unit {0}

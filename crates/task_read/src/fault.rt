@@ -1,0 +1,32 @@
+use std::alloc::AllocError;
+use value_core::{Bytes, OutOfMemory};
+
+/// Why a task isn't read: a file that can't be read, a form that isn't built yet, or no memory.
+#[derive(Debug, Drop)]
+pub enum TaskEnd {
+    ReadFault { file: Bytes },
+    WrongForm,
+    OutOfMemory,
+}
+
+impl From<OutOfMemory> for TaskEnd {
+    ghost use Rattle.std.specs.Prelude.{◌≡◌};
+    ghost use Rattle.task_read.specs.declared.fault.TaskEnd.TheVariants as end;
+
+    ghost from_gives = { λ _ given. given ≡ end.OutOfMemory };
+
+    fn from(_fault: OutOfMemory) -> TaskEnd {
+        TaskEnd::OutOfMemory
+    }
+}
+
+impl From<AllocError> for TaskEnd {
+    ghost use Rattle.std.specs.Prelude.{◌≡◌};
+    ghost use Rattle.task_read.specs.declared.fault.TaskEnd.TheVariants as end;
+
+    ghost from_gives = { λ _ given. given ≡ end.OutOfMemory };
+
+    fn from(_fault: AllocError) -> TaskEnd {
+        TaskEnd::OutOfMemory
+    }
+}

@@ -1,0 +1,29 @@
+ghost use Rattle.std.specs.Prelude.{◌≡◌, ◌≤◌, ℕ, List, IfErr};
+ghost use Rattle.io_edge.specs.Rose.{Rose};
+ghost use Rattle.task_read.specs.Reading.{Reads, IfReadFault};
+ghost use Rattle.task_read.specs.Task.{bytes_told};
+
+use crate::fault::TaskEnd;
+use io_edge::{Folder, FolderFault};
+use std::alloc::Global;
+use value_core::Bytes;
+
+// The most bytes of a file.
+const LONGEST_FILE: usize = 65_536;
+
+/// The bytes of a file.
+pub fn read_file<F: Folder>(alloc: Global, folder: &mut F, name: &Bytes) -> Result<Vec<u8>, TaskEnd>
+    ensures told { Reads (λ v. v.items) (bytes_told (F.told folder.old name.now)) result }
+    ensures read { IfErr result (λ end. IfReadFault end (λ file. (file ≡ name.now) × Rose (F.faults folder.old file) (F.faults folder.new file))) }
+    ensures same { (n : List ℕ) → F.told folder.new n ≡ F.told folder.old n }
+    ensures kept { (n : List ℕ) → F.faults folder.old n ≤ F.faults folder.new n }
+{
+    // The name is copied before the read, so that a failed read can be answered without memory.
+    let file = Bytes::of(alloc, name.as_slice())?;
+    match folder.read(alloc, name.as_slice(), LONGEST_FILE) {
+        Ok(bytes) => Ok(bytes),
+        Err(FolderFault::Failed) => Err(TaskEnd::ReadFault { file }),
+        Err(FolderFault::TooLong) => Err(TaskEnd::WrongForm),
+        Err(FolderFault::OutOfMemory) => Err(TaskEnd::OutOfMemory),
+    }
+}

@@ -1,0 +1,68 @@
+ghost use Rattle.std.specs.Prelude.{◌≡◌, ◌≤◌, ℕ, List, length, true, IfErr, IfOk};
+ghost use Rattle.io_edge.specs.Rose.{Rose};
+ghost use Rattle.task_read.specs.Told.{found};
+ghost use Rattle.task_read.specs.Reading.{Reads, IfReadFault};
+ghost use Rattle.task_read.specs.Task.{plan_told, task_told, is_built, built, IsRead};
+
+use crate::fault::TaskEnd;
+use crate::file::read_file;
+use crate::parts::read_parts;
+use io_edge::Folder;
+use std::alloc::Global;
+use table_core::{Task, TaskParts};
+use task_file::{TaskFile, read_task_file};
+use value_core::Bytes;
+
+// The task file, read.
+fn read_plan<F: Folder>(alloc: Global, folder: &mut F, name: &Bytes) -> Result<TaskFile, TaskEnd>
+    ensures told { Reads (λ plan. plan) (plan_told (F.told folder.old name.now)) result }
+    ensures read { IfErr result (λ end. IfReadFault end (λ f. (f ≡ name.now) × Rose (F.faults folder.old f) (F.faults folder.new f))) }
+    ensures same { (n : List ℕ) → F.told folder.new n ≡ F.told folder.old n }
+    ensures kept { (n : List ℕ) → F.faults folder.old n ≤ F.faults folder.new n }
+{
+    let bytes = read_file(alloc, folder, name)?;
+    match read_task_file(alloc, bytes.as_slice())? {
+        Some(plan) => Ok(plan),
+        None => Err(TaskEnd::WrongForm),
+    }
+}
+
+// Whether a task is of the form that is built so far.
+fn is_built(parts: &TaskParts) -> bool
+    ensures { result ≡ is_built parts.now }
+{
+    if parts.inputs.len() != 1 || parts.ops > 1 {
+        return false;
+    }
+    parts.leaves == 1 && parts.atoms == 1
+}
+
+// The task of these parts, where they are within their limits and of the form.
+fn built(parts: TaskParts) -> Result<Task, TaskEnd>
+    ensures told { Reads (λ task. task) (found (built parts)) result }
+    ensures form { IfOk result (λ task. is_built task ≡ true) }
+    ensures read { IfErr result (λ end. end ≡ TaskEnd.WrongForm) }
+{
+    if !is_built(&parts) {
+        return Err(TaskEnd::WrongForm);
+    }
+    match Task::new(parts) {
+        Ok(task) => Ok(task),
+        Err(_) => Err(TaskEnd::WrongForm),
+    }
+}
+
+/// The task of a task file, of the form that is built so far.
+///
+/// A read that fails ends it with the name of that file, and nothing is read after it.
+pub fn read_task<F: Folder>(alloc: Global, folder: &mut F, name: &Bytes) -> Result<Task, TaskEnd>
+    ensures told { Reads (λ task. task) (task_told (F.told folder.old) name.now) result }
+    ensures form { IfOk result (λ task. is_built task ≡ true) }
+    ensures read { IfErr result (λ end. IfReadFault end (λ f. IsRead (F.told folder.old) name.now f × Rose (F.faults folder.old f) (F.faults folder.new f))) }
+    ensures same { (n : List ℕ) → F.told folder.new n ≡ F.told folder.old n }
+    ensures kept { (n : List ℕ) → F.faults folder.old n ≤ F.faults folder.new n }
+{
+    let plan = read_plan(alloc, folder, name)?;
+    let parts = read_parts(alloc, folder, plan)?;
+    built(parts)
+}
