@@ -1,5 +1,5 @@
 -- The task that a folder tells.
-use Rattle.std.specs.Prelude.{◌≡◌, ℕ, ◌⊎◌, Bool, true, false, ◌&&◌, ◌==◌, nat_le, List, [], ◌∷◌, length, codes, Option, Some, None, is_none, if◌then◌else◌}
+use Rattle.std.specs.Prelude.{◌≡◌, ℕ, ◌⊎◌, Bool, true, false, ◌&&◌, ◌==◌, nat_le, List, [], ◌∷◌, length, codes, Option, Some, None, if◌then◌else◌}
 use Rattle.table_core.specs.Rows.{TableData}
 use Rattle.table_core.specs.Limits.{first_bad_part}
 use Rattle.table_core.specs.declared.agg_set.AggSet.{AggSet}
@@ -62,9 +62,14 @@ parts_told told plan = inputs_told told plan.inputs >>= (λ inputs. output_told 
 abbrev pub is_built : TaskParts → Bool
 is_built parts = (length parts.inputs == 1) && (nat_le parts.ops 1 && ((parts.leaves == 1) && (parts.atoms == 1)))
 
--- the parts, where they are within the limits of a task and of the form
+-- the parts, where none of them is out of its limits
+abbrev pub limited : TaskParts → Option ℕ → Option TaskParts
+limited parts None = Some parts
+limited parts (Some bad) = None
+
+-- the parts, where they are of the form and within the limits of a task
 abbrev pub built : TaskParts → Option TaskParts
-built parts = if is_none (first_bad_part parts) && is_built parts then Some parts else None
+built parts = if is_built parts then limited parts (first_bad_part parts) else None
 
 -- the task file, read
 abbrev pub plan_told : Option (List ℕ) → Told TaskFile

@@ -47,9 +47,9 @@ pub fn read_inputs<F: Folder>(
     ensures same { (n : List ℕ) → F.told folder.new n ≡ F.told folder.old n }
     ensures kept { (n : List ℕ) → F.faults folder.old n ≤ F.faults folder.new n }
 {
-    match inputs {
-        [] => Ok(()),
-        [input, others @ ..] => {
+    match inputs.split_first() {
+        None => Ok(()),
+        Some((input, others)) => {
             let name = input.name.copy(alloc)?;
             let table = read_table_file(alloc, folder, name, 6, 16, &input.file)?;
             out.push(table)?;

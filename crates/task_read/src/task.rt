@@ -63,6 +63,8 @@ pub fn read_task<F: Folder>(alloc: Global, folder: &mut F, name: &Bytes) -> Resu
     ensures kept { (n : List ℕ) → F.faults folder.old n ≤ F.faults folder.new n }
 {
     let plan = read_plan(alloc, folder, name)?;
-    let parts = read_parts(alloc, folder, plan)?;
-    built(parts)
+    match read_parts(alloc, folder, plan) {
+        Ok(parts) => built(parts),
+        Err(end) => Err(end),
+    }
 }
