@@ -16,9 +16,13 @@ use Rattle.table_core.specs.declared.task.TaskParts.{TaskParts}
 use Rattle.query_core.specs.Tree.{Tree, Select, base, filter}
 use Rattle.query_core.specs.Meaning.{input_at}
 
+-- a byte, twice where it is the mark
+abbrev pub doubled : ℕ → ℕ → List ℕ
+doubled mark byte = if byte == mark then byte ∷ byte ∷ [] else byte ∷ []
+
 -- a text between two marks, with each mark in it doubled
 abbrev pub quoted : ℕ → List ℕ → List ℕ
-quoted mark text = mark ∷ (flat_map (λ byte. if byte == mark then byte ∷ byte ∷ [] else byte ∷ []) text ++ mark ∷ [])
+quoted mark text = mark ∷ (flat_map (doubled mark) text ++ mark ∷ [])
 
 -- a name as SQL quotes it
 abbrev pub quoted_name : List ℕ → List ℕ
