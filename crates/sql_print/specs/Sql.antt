@@ -82,20 +82,28 @@ pub record Part : Type 0 where
   pub columns : List (List ℕ)
   pub next : ℕ
 
+-- the text by which a column of an input is named
+abbrev pub input_column : ℕ → Column → List ℕ
+input_column number c = alias number ++ codes "." ++ quoted_name c.name
+
 -- an input as a source with this alias number
 abbrev pub input_source : TaskParts → ℕ → ℕ → Part
 input_source task table number = record {
   text = quoted_name (input_at task table).name ++ codes " AS " ++ alias number;
-  columns = map (λ c. alias number ++ codes "." ++ quoted_name c.name) (input_at task table).columns;
+  columns = map (input_column number) (input_at task table).columns;
   next = number + 1 }
 
 -- `x AS name`
 abbrev pub named : List ℕ → List ℕ → List ℕ
 named column name = column ++ codes " AS " ++ name
 
+-- a column under the name that it has in a derived source
+abbrev pub renamed : List (List ℕ) → ℕ → List ℕ
+renamed columns at = named (text_at columns at) (column_name at)
+
 -- the columns of a part as a select list: `x1 AS c1, x2 AS c2, ..`
 abbrev pub all_columns : List (List ℕ) → List ℕ
-all_columns columns = joined (codes ", ") (map (λ at. named (text_at columns at) (column_name at)) (range_with_len 0 (length columns)))
+all_columns columns = joined (codes ", ") (map (renamed columns) (range_with_len 0 (length columns)))
 
 -- `FROM` and a source
 abbrev pub from_source : Part → Part
@@ -108,11 +116,15 @@ from_where constants source p = record {
   columns = source.columns;
   next = source.next }
 
+-- the text by which a column of a derived source is named
+abbrev pub derived_column : ℕ → ℕ → List ℕ
+derived_column number at = alias number ++ codes "." ++ column_name at
+
 -- a part after `FROM`, made a derived source: selected whole, in parentheses, under the next alias
 abbrev pub derived : Part → Part
 derived part = record {
   text = codes "(SELECT " ++ all_columns part.columns ++ codes " " ++ part.text ++ codes ") AS " ++ alias part.next;
-  columns = map (λ at. alias part.next ++ codes "." ++ column_name at) (range_with_len 0 (length part.columns));
+  columns = map (derived_column part.next) (range_with_len 0 (length part.columns));
   next = part.next + 1 }
 
 -- a tree as a source, with aliases from this number on
@@ -125,9 +137,13 @@ abbrev pub from : TaskParts → Tree → ℕ → Part
 from task (base table) number = from_source (input_source task table number)
 from task (filter child p) number = from_where task.constants (source task child number) p
 
+-- a picked column under an output column's name
+abbrev pub selected : List (List ℕ) → ℕ × Column → List ℕ
+selected columns p = named (text_at columns p.0) (quoted_name p.1.name)
+
 -- the select list of a query: each column of the map under its output name
 abbrev pub select_list : List (List ℕ) → List ℕ → List Column → List ℕ
-select_list columns picks output = joined (codes ", ") (map (λ p. named (text_at columns p.0) (quoted_name p.1.name)) (zip picks output))
+select_list columns picks output = joined (codes ", ") (map (selected columns) (zip picks output))
 
 -- the SQL text of a query
 abbrev pub sql : TaskParts → Select → List ℕ

@@ -2,6 +2,7 @@
 #![tactic(auto)]
 
 mod literal;
+mod predicate;
 mod push;
 
-pub use literal::push_value;
+pub use predicate::push_pred;
