@@ -2,7 +2,12 @@
 #![tactic(auto)]
 
 mod literal;
+mod part;
 mod predicate;
 mod push;
+mod run;
+mod select;
+mod tree;
 
-pub use predicate::push_pred;
+pub use run::text;
+pub use select::sql;
