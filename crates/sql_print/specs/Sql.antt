@@ -91,7 +91,8 @@ abbrev pub input_source : TaskParts → ℕ → ℕ → Part
 input_source task table number = record {
   text = quoted_name (input_at task table).name ++ codes " AS " ++ alias number;
   columns = map (input_column number) (input_at task table).columns;
-  next = number + 1 }
+  next = number + 1;
+}
 
 -- `x AS name`
 abbrev pub named : List ℕ → List ℕ → List ℕ
@@ -114,7 +115,8 @@ abbrev pub from_where : List Value → Part → Pred → Part
 from_where constants source p = record {
   text = codes "FROM " ++ source.text ++ codes " WHERE " ++ pred_text constants source.columns p;
   columns = source.columns;
-  next = source.next }
+  next = source.next;
+}
 
 -- the text by which a column of a derived source is named
 abbrev pub derived_column : ℕ → ℕ → List ℕ
@@ -125,7 +127,8 @@ abbrev pub derived : Part → Part
 derived part = record {
   text = codes "(SELECT " ++ all_columns part.columns ++ codes " " ++ part.text ++ codes ") AS " ++ alias part.next;
   columns = map (derived_column part.next) (range_with_len 0 (length part.columns));
-  next = part.next + 1 }
+  next = part.next + 1;
+}
 
 -- a tree as a source, with aliases from this number on
 abbrev pub source : TaskParts → Tree → ℕ → Part

@@ -11,3 +11,6 @@ mod tree;
 
 pub use run::text;
 pub use select::sql;
+
+#[cfg(test)]
+mod tests;

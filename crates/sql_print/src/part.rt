@@ -91,7 +91,9 @@ fn input_texts(alloc: Global, number: u64, columns: &[Column]) -> Result<Items<B
 {
     let mut texts = Items::new(alloc);
     for column in columns {
-        texts.push(input_column(alloc, number, column)?).map_err(|_| OutOfMemory)?;
+        texts
+            .push(input_column(alloc, number, column)?)
+            .map_err(|_| OutOfMemory)?;
     }
     Ok(texts)
 }
@@ -133,7 +135,9 @@ fn all_renamed(alloc: Global, columns: &[Bytes]) -> Result<Items<Bytes>, OutOfMe
 {
     let mut texts = Items::new(alloc);
     for at in 0..columns.len() {
-        texts.push(renamed(alloc, columns, at)?).map_err(|_| OutOfMemory)?;
+        texts
+            .push(renamed(alloc, columns, at)?)
+            .map_err(|_| OutOfMemory)?;
     }
     Ok(texts)
 }
@@ -155,7 +159,9 @@ fn derived_columns(alloc: Global, number: u64, count: usize) -> Result<Items<Byt
 {
     let mut texts = Items::new(alloc);
     for at in 0..count {
-        texts.push(derived_column(alloc, number, at)?).map_err(|_| OutOfMemory)?;
+        texts
+            .push(derived_column(alloc, number, at)?)
+            .map_err(|_| OutOfMemory)?;
     }
     Ok(texts)
 }

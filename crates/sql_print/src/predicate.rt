@@ -20,7 +20,12 @@ pub fn text_at(texts: &[Bytes], at: usize) -> &[u8]
 }
 
 // Appends a constant, NULL where there is none.
-fn push_constant(alloc: Global, out: &mut Vec<u8>, constants: &[Value], at: usize) -> Result<(), OutOfMemory>
+fn push_constant(
+    alloc: Global,
+    out: &mut Vec<u8>,
+    constants: &[Value],
+    at: usize,
+) -> Result<(), OutOfMemory>
     ensures { OnOk result (out.new.items ≡ out.old.items ++ literal (value_at constants.now at)) }
 {
     match constants.get(at) {
@@ -70,7 +75,12 @@ fn push_atom(
 }
 
 // An atom over columns of these texts.
-fn atom_text(alloc: Global, constants: &[Value], columns: &[Bytes], atom: Atom) -> Result<Bytes, OutOfMemory>
+fn atom_text(
+    alloc: Global,
+    constants: &[Value],
+    columns: &[Bytes],
+    atom: Atom,
+) -> Result<Bytes, OutOfMemory>
     ensures { IfOk result (λ text. text ≡ atom_text constants.now columns.now atom) }
 {
     let mut out = Vec::new(alloc);
@@ -89,7 +99,9 @@ fn atom_texts(
 {
     let mut texts = Items::new(alloc);
     for atom in atoms {
-        texts.push(atom_text(alloc, constants, columns, *atom)?).map_err(|_| OutOfMemory)?;
+        texts
+            .push(atom_text(alloc, constants, columns, *atom)?)
+            .map_err(|_| OutOfMemory)?;
     }
     Ok(texts)
 }

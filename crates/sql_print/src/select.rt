@@ -14,7 +14,12 @@ use table_core::{Column, Task, TaskParts};
 use value_core::{Bytes, OutOfMemory};
 
 // A picked column under an output column's name.
-fn selected(alloc: Global, columns: &[Bytes], pick: usize, column: &Column) -> Result<Bytes, OutOfMemory>
+fn selected(
+    alloc: Global,
+    columns: &[Bytes],
+    pick: usize,
+    column: &Column,
+) -> Result<Bytes, OutOfMemory>
     ensures { IfOk result (λ text. text ≡ selected columns.now (pick, column.now)) }
 {
     let mut out = Vec::new(alloc);
@@ -35,7 +40,9 @@ fn all_selected(
 {
     let mut texts = Items::new(alloc);
     for (pick, column) in picks.iter().zip(output) {
-        texts.push(selected(alloc, columns, *pick, column)?).map_err(|_| OutOfMemory)?;
+        texts
+            .push(selected(alloc, columns, *pick, column)?)
+            .map_err(|_| OutOfMemory)?;
     }
     Ok(texts)
 }
@@ -66,13 +73,24 @@ fn push_distinct(out: &mut Vec<u8>, distinct: bool) -> Result<(), OutOfMemory>
 }
 
 // Appends the SQL text of a query.
-pub fn push_sql(alloc: Global, out: &mut Vec<u8>, task: &TaskParts, query: &Query) -> Result<(), OutOfMemory>
+pub fn push_sql(
+    alloc: Global,
+    out: &mut Vec<u8>,
+    task: &TaskParts,
+    query: &Query,
+) -> Result<(), OutOfMemory>
     ensures { OnOk result (out.new.items ≡ out.old.items ++ sql task.now (select query.now)) }
 {
     let body = from(alloc, task, &query.body, 1)?;
     push_bytes(out, b"SELECT ")?;
     push_distinct(out, query.distinct)?;
-    push_select_list(alloc, out, body.columns.as_slice(), query.map.as_slice(), task.output.columns())?;
+    push_select_list(
+        alloc,
+        out,
+        body.columns.as_slice(),
+        query.map.as_slice(),
+        task.output.columns(),
+    )?;
     push_bytes(out, b" ")?;
     push_bytes(out, body.text.as_slice())
 }

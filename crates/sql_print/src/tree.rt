@@ -9,12 +9,7 @@ use table_core::TaskParts;
 use value_core::OutOfMemory;
 
 // A tree as a source, with aliases from this number on.
-fn source(
-    alloc: Global,
-    task: &TaskParts,
-    node: &Node,
-    number: u64,
-) -> Result<Printed, OutOfMemory>
+fn source(alloc: Global, task: &TaskParts, node: &Node, number: u64) -> Result<Printed, OutOfMemory>
     ensures { IfOk result (λ part. part ≡ source task.now (tree node.now) number) }
 {
     match node {
