@@ -1,0 +1,16 @@
+//! Printed SQL: the text of a query, and the text of a run.
+#![tactic(auto)]
+
+mod literal;
+mod part;
+mod predicate;
+mod push;
+mod run;
+mod select;
+mod tree;
+
+pub use run::text;
+pub use select::sql;
+
+#[cfg(test)]
+mod tests;
