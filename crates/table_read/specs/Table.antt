@@ -2,7 +2,6 @@
 use Rattle.std.specs.Prelude.{ℕ, ◌+◌, Bool, true, not, ◌&&◌, ◌||◌, ◌==◌, nat_eq, nat_le, nat_lt, if◌then◌else◌, List, [], ◌∷◌, ◌++◌, length, map, slice_get, Option, Some, None, is_some, option_map, unwrap_or}
 use Rattle.std.specs.List.{list_all, list_any}
 use Rattle.std.specs.Cmp.Lexicographic.{pointwise}
-use Rattle.std.specs.Str.Lossy.{utf8_valid_len}
 use Rattle.csv_records.specs.Records.{records_of}
 use Rattle.value_core.specs.declared.value.Value.{Value}
 use Rattle.value_core.specs.declared.value.Value.TheVariants.{Null, Int, Text}
@@ -11,6 +10,7 @@ use Rattle.value_core.specs.declared.value.ColType.TheVariants as kind
 use Rattle.table_core.specs.Rows.{Row, TableData}
 use Rattle.table_core.specs.declared.column.Column.{Column}
 use Rattle.value_core.specs.Integer.{integer_of}
+use Rattle.value_core.specs.Text.{is_text}
 
 infixl 10 ◌>>=◌
 -- the next step, of what the step before gave
@@ -37,10 +37,6 @@ Fields = List (List ℕ)
 -- the field at a place of a record, which is empty past the end
 abbrev pub field_at : Fields → ℕ → List ℕ
 field_at fields at = unwrap_or (slice_get fields at) []
-
--- the bytes are UTF-8
-abbrev pub is_text : List ℕ → Bool
-is_text bytes = utf8_valid_len bytes == length bytes
 
 -- a word of 1 to 64 bytes
 abbrev pub word_of : List ℕ → Option (List ℕ)

@@ -1,21 +1,13 @@
 ghost use Rattle.std.specs.Prelude.{◌≡◌, IfOk};
-ghost use Rattle.table_read.specs.Table.{is_text, table_of, table_under};
+ghost use Rattle.table_read.specs.Table.{table_of, table_under};
 
 use crate::columns::columns_of;
 use crate::header::names_of;
 use crate::rows::{are_rows, tuples_of};
 use csv_records::{Record, read_records};
 use std::alloc::Global;
-use std::str;
 use table_core::Table;
-use value_core::{OutOfMemory, Word};
-
-// Whether the bytes are UTF-8.
-fn is_text(bytes: &[u8]) -> bool
-    ensures { result ≡ is_text bytes.now }
-{
-    str::from_utf8(bytes).is_ok()
-}
+use value_core::{OutOfMemory, Word, is_text};
 
 #[tactic(auto, using(crate::proofs::Typing::tuples_typed), unfolding(crate::specs::Table::table_under, crate::specs::Table::table_with))]
 // The table of this header and these rows, if they make one.

@@ -1,13 +1,11 @@
-// A library with one function.
+//! The top call: from words and files to the text of a task.
 #![tactic(auto)]
 
-ghost use Rattle.std.specs.Prelude.{◌≡◌};
-ghost use Rattle.top_call.specs.Echo.{echo_of};
+mod command;
+mod end;
+mod line;
+mod listing;
+mod run;
 
-// The `ensures` clause is the contract: what `echo` returns is `echo_of` of its argument, a definition
-// in `specs/Echo.antt`, which a caller's clause can cite too.
-pub fn echo(x: usize) -> usize
-    ensures { result ≡ echo_of x }
-{
-    x
-}
+pub use end::End;
+pub use run::scythe;

@@ -1,3 +1,4 @@
 pub mod Integer
+pub mod Text
 pub mod Value
 pub mod Word

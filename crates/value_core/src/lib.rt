@@ -5,6 +5,7 @@ mod bytes;
 mod comparison;
 mod fault;
 mod integer;
+mod text;
 mod value;
 mod word;
 
@@ -12,6 +13,7 @@ pub use bytes::Bytes;
 pub use comparison::{CmpOp, Truth, compare, order, order_is_total, same, same_is_equality};
 pub use fault::OutOfMemory;
 pub use integer::read_int;
+pub use text::is_text;
 pub use value::{ColType, Value};
 pub use word::{Word, WordFault};
 

@@ -1,4 +1,4 @@
-ghost use Rattle.std.specs.Prelude.{◌≡◌, ◌≢◌, length, IfOk};
+ghost use Rattle.std.specs.Prelude.{◌≡◌, length, IfOk, IfErr};
 ghost use Rattle.value_core.specs.Word.{IsWord};
 ghost use Rattle.value_core.specs.declared.word.WordFault.TheVariants.{BadLength};
 
@@ -40,7 +40,7 @@ impl Word {
     /// A copy of these bytes, where there are 1 to 64.
     pub fn of(alloc: Global, from: &[u8]) -> Result<Word, WordFault>
         ensures ok { IfOk result (λ w. (w ≡ from.now) × IsWord w) }
-        ensures fits { IsWord from.now → result ≢ Err (BadLength (length from.now)) }
+        ensures fits { IsWord from.now → IfErr result (λ fault. fault ≡ WordFault.OutOfMemory) }
         ensures bad_length { ¬ IsWord from.now → result ≡ Err (BadLength (length from.now)) }
     {
         if from.is_empty() || from.len() > LONGEST_WORD {

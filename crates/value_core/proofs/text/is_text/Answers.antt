@@ -5,7 +5,7 @@ use Rattle.std.specs.Str.{IsValidUpTo}
 use Rattle.std.specs.Str.Lossy.{utf8_valid_len}
 use Rattle.std.proofs.lemmas.Bool.{ne_eqb}
 use Rattle.std.proofs.lemmas.Str.{utf8_valid_len-IsUtf8, utf8_valid_len-IsValidUpTo}
-use Rattle.table_read.proofs.reading.is_text.Goals as goal
+use Rattle.value_core.proofs.text.is_text.Goals as goal
 
 -- bytes are text where all of them are the longest front that is
 told_by_front : {T E : Type 0} (r : Result T E) (P : T → Type 0) (front : E → ℕ) (bytes : List ℕ)

@@ -1,0 +1,35 @@
+-- What a run does that has its task.
+use Rattle.std.specs.Prelude.{◌≡◌, ℕ, ◌<◌, ◌==◌, List, [], length, Option, if◌then◌else◌}
+use Rattle.io_edge.specs.Rose.{Rose}
+use Rattle.io_edge.specs.Gained.{Gained, GainedFront}
+use Rattle.table_core.specs.declared.task.TaskParts.{TaskParts}
+use Rattle.query_core.specs.Answers.{answers}
+use Rattle.sql_print.specs.Text.{text}
+use Rattle.task_read.specs.Told.{Told, WhenReady, MayRefuse}
+use Rattle.task_read.specs.Task.{task_told, IsRead}
+use Rattle.top_call.specs.declared.end.End.{End}
+use Rattle.top_call.specs.declared.end.End.TheVariants.{Listed, Empty, Usage, ReadFault, WriteFault, OutOfMemory, NotYet}
+
+-- the end of a run that wrote the text of so many answers
+abbrev pub end_of : ℕ → End
+end_of count = if count == 0 then Empty else Listed count
+
+-- what listing a task does to the sink, beside its end
+abbrev pub Prints : TaskParts → Option (List ℕ) → Option (List ℕ) → ℕ → ℕ → End → Type 0
+Prints task old new before now (Listed count) = ((count ≡ length (answers task)) × (0 < count)) × Gained old new (text task)
+Prints task old new before now Empty = (answers task ≡ []) × Gained old new (text task)
+Prints task old new before now Usage = ⊥
+Prints task old new before now (ReadFault file) = ⊥
+Prints task old new before now WriteFault = GainedFront old new (text task) × Rose before now
+Prints task old new before now OutOfMemory = new ≡ old
+Prints task old new before now NotYet = ⊥
+
+-- what a run of a task file does to folder and sink, beside its end
+abbrev pub Runs : (List ℕ → Option (List ℕ)) → (List ℕ → ℕ) → (List ℕ → ℕ) → List ℕ → Option (List ℕ) → Option (List ℕ) → ℕ → ℕ → End → Type 0
+Runs told unread unread_now file old new before now (Listed count) = WhenReady (task_told told file) (λ task. Prints task old new before now (Listed count))
+Runs told unread unread_now file old new before now Empty = WhenReady (task_told told file) (λ task. Prints task old new before now Empty)
+Runs told unread unread_now file old new before now Usage = ⊥
+Runs told unread unread_now file old new before now (ReadFault name) = (IsRead told file name × Rose (unread name) (unread_now name)) × (new ≡ old)
+Runs told unread unread_now file old new before now WriteFault = WhenReady (task_told told file) (λ task. Prints task old new before now WriteFault) × Rose before now
+Runs told unread unread_now file old new before now OutOfMemory = new ≡ old
+Runs told unread unread_now file old new before now NotYet = MayRefuse (task_told told file) × (new ≡ old)

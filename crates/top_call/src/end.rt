@@ -1,0 +1,40 @@
+ghost use Rattle.std.specs.Prelude.{◌≡◌};
+
+use value_core::Bytes;
+
+/// How a run ended.
+#[derive(Debug, Drop)]
+pub enum End {
+    /// The text was written, with this number of answers.
+    Listed { count: u64 },
+    /// The text was written, and there is no answer.
+    Empty,
+    /// The words aren't understood.
+    Usage,
+    /// This file couldn't be read.
+    ReadFault { file: Bytes },
+    /// The text couldn't be written whole.
+    WriteFault,
+    OutOfMemory,
+    /// The task isn't of the form that is built so far.
+    NotYet,
+}
+
+impl End {
+    ghost use Rattle.top_call.specs.Line.{status};
+
+    /// The status that the program ends with.
+    pub fn status(&self) -> u8
+        ensures { result ≡ status self.now }
+    {
+        match self {
+            End::Listed { .. } => 0,
+            End::Empty => 1,
+            End::Usage => 2,
+            End::ReadFault { .. } => 6,
+            End::WriteFault => 7,
+            End::OutOfMemory => 8,
+            End::NotYet => 20,
+        }
+    }
+}
