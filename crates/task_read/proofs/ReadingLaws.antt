@@ -115,7 +115,8 @@ end_map (ReadFault file) P Q h p = h file p
 end_map WrongForm P Q h p = tt
 end_map OutOfMemory P Q h p = tt
 
-ready_then : {A : Type 0} (s : Told A) (x : A) (P : A → Type 0) → WhenReady s (λ y. x ≡ y) → P x → WhenReady s P
+-- a fact of what was read
+pub ready_then : {A : Type 0} (s : Told A) (x : A) (P : A → Type 0) → WhenReady s (λ y. x ≡ y) → P x → WhenReady s P
 ready_then untold x P is p = tt
 ready_then refused x P is p = absurd is
 ready_then (ready y) x P is p = subst P is p

@@ -1,5 +1,5 @@
 -- What a run does that has its task.
-use Rattle.std.specs.Prelude.{◌≡◌, ℕ, ◌<◌, ◌==◌, List, [], length, Option, if◌then◌else◌}
+use Rattle.std.specs.Prelude.{◌≡◌, ℕ, ◌<◌, ◌==◌, List, [], length, Option, Some, None, if◌then◌else◌}
 use Rattle.io_edge.specs.Rose.{Rose}
 use Rattle.io_edge.specs.Gained.{Gained, GainedFront}
 use Rattle.table_core.specs.declared.task.TaskParts.{TaskParts}
@@ -33,3 +33,8 @@ Runs told unread unread_now file old new before now (ReadFault name) = (IsRead t
 Runs told unread unread_now file old new before now WriteFault = WhenReady (task_told told file) (λ task. Prints task old new before now WriteFault) × Rose before now
 Runs told unread unread_now file old new before now OutOfMemory = new ≡ old
 Runs told unread unread_now file old new before now NotYet = MayRefuse (task_told told file) × (new ≡ old)
+
+-- what a run of words does, beside its end
+abbrev pub RunsWords : (List ℕ → Option (List ℕ)) → (List ℕ → ℕ) → (List ℕ → ℕ) → Option (List ℕ) → Option (List ℕ) → Option (List ℕ) → ℕ → ℕ → End → Type 0
+RunsWords told unread unread_now None old new before now end = (end ≡ Usage) × (new ≡ old)
+RunsWords told unread unread_now (Some file) old new before now end = Runs told unread unread_now file old new before now end

@@ -27,6 +27,20 @@ IsReadIn_file told (Some task) file = IsRead told task file
 abbrev pub IsReadIn : (List ℕ → Option (List ℕ)) → List (List ℕ) → List ℕ → Type 0
 IsReadIn told words = IsReadIn_file told (command words)
 
+-- no file that is read in a run of these words had a fault in it
+abbrev pub NoneUnread : (List ℕ → Option (List ℕ)) → (List ℕ → ℕ) → (List ℕ → ℕ) → List (List ℕ) → Type 0
+NoneUnread told before now words = (file : List ℕ) → IsReadIn told words file → ¬ (Rose (before file) (now file))
+
+-- the ends at which nothing was written to the output
+abbrev pub IsUnwritten : End → Type 0
+IsUnwritten (Listed count) = ⊥
+IsUnwritten Empty = ⊥
+IsUnwritten Usage = Unit {0}
+IsUnwritten (ReadFault file) = Unit {0}
+IsUnwritten WriteFault = ⊥
+IsUnwritten OutOfMemory = ⊥
+IsUnwritten NotYet = Unit {0}
+
 -- a fact of the task, where there is one: nothing is claimed where nothing is told or what is told is refused
 abbrev pub IfReady : Told TaskParts → (TaskParts → Type 0) → Type 0
 IfReady untold P = Unit {0}

@@ -22,7 +22,7 @@ pub fn command(words: &[Bytes]) -> Option<&Bytes>
         return None;
     }
     let file = &words[1];
-    if words[0].as_slice() == b"run" && is_operand(file.as_slice()) {
+    if words[0].as_slice() == b"run".as_slice() && is_operand(file.as_slice()) {
         Some(file)
     } else {
         None

@@ -1,4 +1,4 @@
-ghost use Rattle.std.specs.Prelude.{◌≡◌, ◌++◌, ◌∷◌, [], codes, OnOk, OnErr};
+ghost use Rattle.std.specs.Prelude.{◌≡◌, ◌≤◌, ◌++◌, ◌∷◌, [], codes, OnOk, OnErr};
 ghost use Rattle.io_edge.specs.Rose.{Rose};
 ghost use Rattle.io_edge.specs.Gained.{Gained, GainedFront};
 ghost use Rattle.top_call.specs.Line.{line, line_of};
@@ -10,10 +10,13 @@ use io_edge::{Sink, WriteFault, write_all};
 fn write_both<E: Sink>(err: &mut E, first: &[u8], second: &[u8]) -> Result<(), WriteFault>
     ensures all { OnOk result (Gained (E.written err.old) (E.written err.new) (first.now ++ second.now)) }
     ensures front { OnErr result (GainedFront (E.written err.old) (E.written err.new) (first.now ++ second.now)) }
+    ensures kept { E.faults err.old ≤ E.faults err.new }
     ensures failed { OnErr result (Rose (E.faults err.old) (E.faults err.new)) }
 {
-    write_all(err, first)?;
-    write_all(err, second)
+    match write_all(err, first) {
+        Ok(()) => write_all(err, second),
+        Err(fault) => Err(fault),
+    }
 }
 
 // Writes the line of a file that couldn't be read, in pieces.
@@ -22,8 +25,10 @@ fn write_unread<E: Sink>(err: &mut E, file: &[u8]) -> Result<(), WriteFault>
     ensures front { OnErr result (GainedFront (E.written err.old) (E.written err.new) (line_of (codes "cannot read " ++ file.now))) }
     ensures failed { OnErr result (Rose (E.faults err.old) (E.faults err.new)) }
 {
-    write_both(err, b"scythe: cannot read ", file)?;
-    write_all(err, b"\n")
+    match write_both(err, b"scythe: cannot read ", file) {
+        Ok(()) => write_all(err, b"\n"),
+        Err(fault) => Err(fault),
+    }
 }
 
 /// Writes the line of an end, which is none for a run that lists.

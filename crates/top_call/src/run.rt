@@ -6,8 +6,8 @@ ghost use Rattle.sql_print.specs.Text.{text};
 ghost use Rattle.task_read.specs.Told.{WhenReady, MayRefuse};
 ghost use Rattle.top_call.specs.Command.{command};
 ghost use Rattle.top_call.specs.Line.{line};
-ghost use Rattle.top_call.specs.Listing.{Runs};
-ghost use Rattle.top_call.specs.Promise.{asked, IsReadIn, IfReady, IsRefused, AnswersTask};
+ghost use Rattle.top_call.specs.Listing.{Runs, RunsWords};
+ghost use Rattle.top_call.specs.Promise.{asked, IsReadIn, NoneUnread, IsUnwritten, IfReady, IsRefused, AnswersTask};
 ghost use Rattle.top_call.specs.declared.end.End.TheVariants.{Listed, Empty, Usage, ReadFault, WriteFault, OutOfMemory, NotYet};
 
 use crate::command::command;
@@ -30,4 +30,54 @@ fn run_file<F: Folder, K: Sink>(alloc: Global, file: &Bytes, folder: &mut F, out
         Err(TaskEnd::WrongForm) => End::NotYet,
         Err(TaskEnd::OutOfMemory) => End::OutOfMemory,
     }
+}
+
+// Runs what the words ask for.
+fn run<F: Folder, K: Sink>(alloc: Global, words: &[Bytes], folder: &mut F, out: &mut K) -> End
+    ensures { RunsWords (F.told folder.old) (F.faults folder.old) (F.faults folder.new) (command words.now) (K.written out.old) (K.written out.new) (K.faults out.old) (K.faults out.new) result }
+{
+    match command(words) {
+        None => End::Usage,
+        Some(file) => run_file(alloc, file, folder, out),
+    }
+}
+
+/// Runs the program on its words: `run FILE` reads the task of a file and writes the text of its answers, best first.
+///
+/// `words` are those after the program's name. The text goes to `out`, and the line of any other end to `err`.
+pub fn scythe<R: Threads + Sync, F: Folder, K: Sink, E: Sink, G: Gate + Sync>(
+    rt: &R,
+    alloc: Global,
+    words: &[Bytes],
+    folder: &mut F,
+    out: &mut K,
+    err: &mut E,
+    gate: &G,
+) -> End
+    // The headline: the text is that of the task, and the number is that of its answers.
+    ensures listed { (n : ℕ) → result ≡ Listed n → WhenReady (asked (F.told folder.old) words.now) (λ task. ((n ≡ length (answers task)) × (0 < n)) × Gained (K.written out.old) (K.written out.new) (text task)) }
+    ensures empty { result ≡ Empty → WhenReady (asked (F.told folder.old) words.now) (λ task. (answers task ≡ []) × Gained (K.written out.old) (K.written out.new) (text task)) }
+
+    // When each other end comes.
+    ensures usage { (result ≡ Usage) ↔ (command words.now ≡ None) }
+    ensures not_yet { result ≡ NotYet → MayRefuse (asked (F.told folder.old) words.now) }
+    ensures read { (file : List ℕ) → result ≡ ReadFault file → IsReadIn (F.told folder.old) words.now file × Rose (F.faults folder.old file) (F.faults folder.new file) }
+    ensures write { result ≡ WriteFault → Rose (K.faults out.old) (K.faults out.new) }
+    ensures write_last { result ≡ WriteFault → ¬ (IsRefused (asked (F.told folder.old) words.now)) }
+
+    // Where no read failed, a task is answered unless a write failed or memory ran out, and what isn't a task is refused.
+    ensures complete { NoneUnread (F.told folder.old) (F.faults folder.old) (F.faults folder.new) words.now → ¬ Rose (K.faults out.old) (K.faults out.new) → IfReady (asked (F.told folder.old) words.now) (λ task. AnswersTask task result) }
+    ensures refused { NoneUnread (F.told folder.old) (F.faults folder.old) (F.faults folder.new) words.now → IsSome (command words.now) → IsRefused (asked (F.told folder.old) words.now) → (result ≡ NotYet) ⊎ (result ≡ OutOfMemory) }
+
+    // What was written.
+    ensures out_front { IfReady (asked (F.told folder.old) words.now) (λ task. GainedFront (K.written out.old) (K.written out.new) (text task)) }
+    ensures out_kept { IsUnwritten result → K.written out.new ≡ K.written out.old }
+    ensures err_front { GainedFront (E.written err.old) (E.written err.new) (line result) }
+    ensures err_whole { Gained (E.written err.old) (E.written err.new) (line result) ⊎ Rose (E.faults err.old) (E.faults err.new) }
+{
+    let _ = rt;
+    let _ = gate;
+    let end = run(alloc, words, folder, out);
+    let _ = write_line(err, &end);
+    end
 }
