@@ -1,5 +1,5 @@
 -- The SQL text of a query.
-use Rattle.std.specs.Prelude.{ℕ, ◌+◌, Bool, true, false, List, [], ◌∷◌, ◌++◌, map, flat_map, length, codes, ◌==◌, slice_get, unwrap_or, if◌then◌else◌}
+use Rattle.std.specs.Prelude.{ℕ, ◌+◌, List, [], ◌∷◌, ◌++◌, map, flat_map, length, codes, ◌==◌, slice_get, unwrap_or, if◌then◌else◌}
 use Rattle.std.specs.List.{range_with_len, zip}
 use Rattle.std.specs.Fmt.{decimal, signed_decimal}
 use Rattle.value_core.specs.declared.value.Value.{Value}

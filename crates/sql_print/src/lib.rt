@@ -1,6 +1,8 @@
 //! Printed SQL: the text of a query, and the text of a run.
 #![tactic(auto)]
 
+mod derived_source;
+mod input;
 mod literal;
 mod part;
 mod predicate;

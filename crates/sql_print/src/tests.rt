@@ -44,56 +44,45 @@ fn task(alloc: Global) -> Result<Task, Fail> {
     Ok(Task::new(parts)?)
 }
 
-fn query(alloc: Global, body: Node, distinct: bool) -> Result<Query, Fail> {
-    let map = Items::from_slice(alloc, &[0, 1])?;
-    Ok(Query {
-        body,
-        map,
-        distinct,
-    })
-}
-
 fn filter(alloc: Global, child: Node, pred: Pred) -> Result<Node, Fail> {
     Ok(Node::Filter(Boxed::new(alloc, child)?, pred))
 }
 
+// Whether this is the text of a query that selects both columns of a body.
+fn is_printed(alloc: Global, body: Node, distinct: bool, want: &str) -> Result<bool, Fail> {
+    let query = Query {
+        body,
+        map: Items::from_slice(alloc, &[0, 1])?,
+        distinct,
+    };
+    let text = sql(alloc, &task(alloc)?, &query)?;
+    Ok(text.as_slice() == want.as_bytes())
+}
+
 #[test]
 fn prints_predicates(rt: HostRuntime) -> Result<(), Fail> {
-    let alloc = rt.alloc();
     let is_two = Atom::Const(0, CmpOp::Eq, 0);
+    let not_text = Atom::Const(1, CmpOp::Ne, 1);
     let is_null = Atom::IsNull(1);
     let not_null = Atom::NotNull(0);
+    let columns = Atom::Cols(0, CmpOp::Le, 1);
     let table = [
-        (Pred::Always, "1 = 1"),
-        (Pred::One(is_two), "s1.\"id\" = 2"),
         (
-            Pred::One(Atom::Const(1, CmpOp::Ne, 1)),
-            "s1.\"v\" <> 'it''s'",
+            Pred::One(not_text),
+            r#"SELECT s1."id" AS "a", s1."v" AS "b" FROM "t" AS s1 WHERE s1."v" <> 'it''s'"#,
         ),
         (
-            Pred::One(Atom::Cols(0, CmpOp::Le, 1)),
-            "s1.\"id\" <= s1.\"v\"",
+            Pred::And2(is_two, columns),
+            r#"SELECT s1."id" AS "a", s1."v" AS "b" FROM "t" AS s1 WHERE s1."id" = 2 AND s1."id" <= s1."v""#,
         ),
         (
-            Pred::And2(is_two, is_null),
-            "s1.\"id\" = 2 AND s1.\"v\" IS NULL",
-        ),
-        (
-            Pred::Or3(is_null, not_null, Atom::Const(0, CmpOp::Gt, 0)),
-            "s1.\"v\" IS NULL OR s1.\"id\" IS NOT NULL OR s1.\"id\" > 2",
+            Pred::Or3(is_two, is_null, not_null),
+            r#"SELECT s1."id" AS "a", s1."v" AS "b" FROM "t" AS s1 WHERE s1."id" = 2 OR s1."v" IS NULL OR s1."id" IS NOT NULL"#,
         ),
     ];
-    let task = task(alloc)?;
-    for (pred, condition) in table {
-        let query = query(alloc, filter(alloc, Node::Base(0), pred)?, false)?;
-        let want = format!(in alloc;
-            "SELECT s1.\"id\" AS \"a\", s1.\"v\" AS \"b\" FROM \"t\" AS s1 WHERE {condition}"
-        )?;
-        assert_eq!(rt;
-            sql(alloc, &task, &query)?.as_slice(),
-            want.as_bytes(),
-            "{condition}"
-        );
+    for (pred, want) in table {
+        let body = filter(rt.alloc(), Node::Base(0), pred)?;
+        assert!(rt; is_printed(rt.alloc(), body, false, want)?, "{want}");
     }
     Ok(())
 }
@@ -101,64 +90,57 @@ fn prints_predicates(rt: HostRuntime) -> Result<(), Fail> {
 #[test]
 fn prints_sources(rt: HostRuntime) -> Result<(), Fail> {
     let alloc = rt.alloc();
-    let one = filter(
+    let want = r#"SELECT DISTINCT s1."""n" AS "a", s1."it's" AS "b" FROM "o""k" AS s1"#;
+    assert!(rt; is_printed(alloc, Node::Base(1), true, want)?);
+    let child = filter(
         alloc,
         Node::Base(0),
         Pred::One(Atom::Const(0, CmpOp::Eq, 0)),
     )?;
-    let two = filter(alloc, one, Pred::One(Atom::IsNull(1)))?;
-    let table = [
-        (
-            query(alloc, Node::Base(0), false)?,
-            "SELECT s1.\"id\" AS \"a\", s1.\"v\" AS \"b\" FROM \"t\" AS s1",
-        ),
-        (
-            query(alloc, Node::Base(1), true)?,
-            "SELECT DISTINCT s1.\"\"\"n\" AS \"a\", s1.\"it's\" AS \"b\" FROM \"o\"\"k\" AS s1",
-        ),
-        (
-            query(alloc, two, false)?,
-            "SELECT s2.c1 AS \"a\", s2.c2 AS \"b\" FROM (SELECT s1.\"id\" AS c1, s1.\"v\" AS c2 FROM \"t\" AS s1 WHERE s1.\"id\" = 2) AS s2 WHERE s2.c2 IS NULL",
-        ),
-    ];
-    let task = task(alloc)?;
-    for (query, want) in &table {
-        assert_eq!(rt;
-            sql(alloc, &task, query)?.as_slice(),
-            want.as_bytes(),
-            "{want}"
-        );
-    }
+    let body = filter(alloc, child, Pred::One(Atom::IsNull(1)))?;
+    let want =
+        r#"SELECT s2.c1 AS "a", s2.c2 AS "b" FROM (SELECT s1."id" AS c1, s1."v" AS c2 FROM "t" AS s1 WHERE s1."id" = 2) AS s2 WHERE s2.c2 IS NULL"#;
+    assert!(rt; is_printed(alloc, body, false, want)?);
     Ok(())
 }
 
 // An answer that is an input as it is.
 fn whole(alloc: Global, task: &TaskParts) -> Result<Ranked, Fail> {
-    let query = query(alloc, Node::Base(0), false)?;
+    let query = Query {
+        body: Node::Base(0),
+        map: Items::from_slice(alloc, &[0, 1])?,
+        distinct: false,
+    };
     let key = key(alloc, task, 0, &query, &[])?;
     Ok(Ranked { key, query })
 }
 
+// The text of a run with so many answers.
+fn run_of(alloc: Global, count: usize) -> Result<Vec<u8>, Fail> {
+    let task = task(alloc)?;
+    let mut list = Vec::new(alloc);
+    for _ in 0..count {
+        list.push(whole(alloc, task.parts())?)?;
+    }
+    Ok(text(alloc, &task, list.as_slice())?)
+}
+
 #[test]
 fn prints_runs(rt: HostRuntime) -> Result<(), Fail> {
-    let alloc = rt.alloc();
-    let task = task(alloc)?;
-    let line = "SELECT s1.\"id\" AS \"a\", s1.\"v\" AS \"b\" FROM \"t\" AS s1\n";
     let table = [
-        (0, format!(in alloc; "0 queries\n")?),
-        (1, format!(in alloc; "1 query\n1: {line}")?),
-        (3, format!(in alloc; "3 queries\n1: {line}2: {line}")?),
+        (0, "0 queries\n"),
+        (
+            1,
+            "1 query\n1: SELECT s1.\"id\" AS \"a\", s1.\"v\" AS \"b\" FROM \"t\" AS s1\n",
+        ),
+        (
+            3,
+            "3 queries\n1: SELECT s1.\"id\" AS \"a\", s1.\"v\" AS \"b\" FROM \"t\" AS s1\n2: SELECT s1.\"id\" AS \"a\", s1.\"v\" AS \"b\" FROM \"t\" AS s1\n",
+        ),
     ];
-    for (count, want) in &table {
-        let mut list = Vec::new(alloc);
-        for _ in 0..*count {
-            list.push(whole(alloc, task.parts())?)?;
-        }
-        assert_eq!(rt;
-            text(alloc, &task, list.as_slice())?.as_slice(),
-            want.as_bytes(),
-            "{count}"
-        );
+    for (count, want) in table {
+        let text = run_of(rt.alloc(), count)?;
+        assert!(rt; text.as_slice() == want.as_bytes(), "{want}");
     }
     Ok(())
 }

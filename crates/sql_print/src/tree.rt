@@ -2,7 +2,9 @@ ghost use Rattle.std.specs.Prelude.{◌≡◌, IfOk};
 ghost use Rattle.query_core.specs.View.{tree};
 ghost use Rattle.sql_print.specs.Sql.{source, from};
 
-use crate::part::{Printed, derived, from_source, from_where, input_source};
+use crate::derived_source::derived;
+use crate::input::input_source;
+use crate::part::{Printed, from_source, from_where};
 use query_core::Node;
 use std::alloc::Global;
 use table_core::TaskParts;

@@ -2,7 +2,7 @@ use Rattle.std.proofs.Common.{arith}
 use Rattle.std.proofs.lemmas.Grind.{common_steps}
 use Rattle.std.proofs.lemmas.List.FromFn.{map-range_with_len_more}
 use Rattle.sql_print.specs.Sql.{derived_column}
-use Rattle.sql_print.proofs.part.derived_columns.Goals as goal
+use Rattle.sql_print.proofs.derived_source.derived_columns.Goals as goal
 
 pub loop-at-preserved : goal.loop-at-preserved
 loop-at-preserved c =
