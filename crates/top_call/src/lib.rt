@@ -9,3 +9,6 @@ mod run;
 
 pub use end::End;
 pub use run::scythe;
+
+#[cfg(test)]
+mod tests;
