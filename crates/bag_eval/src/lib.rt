@@ -8,3 +8,6 @@ mod select;
 pub use filter::{keep_rows, keeps_all_rows, keeps_same_rows};
 pub use output::gives_rows;
 pub use select::{first_rows, has_double_selected, select_rows};
+
+#[cfg(test)]
+mod tests;

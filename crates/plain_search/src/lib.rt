@@ -8,3 +8,6 @@ mod listing;
 mod search;
 
 pub use search::plain;
+
+#[cfg(test)]
+mod tests;

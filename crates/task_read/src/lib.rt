@@ -9,3 +9,6 @@ mod task;
 
 pub use fault::TaskEnd;
 pub use task::read_task;
+
+#[cfg(test)]
+mod tests;
