@@ -1,9 +1,7 @@
 -- The atoms over a list of columns and the predicates over a list of atoms, in order.
-use Rattle.std.specs.Prelude.{ℕ, ◌+◌, Bool, true, false, List, [], ◌∷◌, ◌++◌, map, flat_map, nat_le, if◌then◌else◌}
+use Rattle.std.specs.Prelude.{ℕ, ◌+◌, List, [], ◌∷◌, ◌++◌, map, nat_le, if◌then◌else◌}
 use Rattle.value_core.specs.declared.value.Value.{Value}
-use Rattle.value_core.specs.declared.value.Value.TheVariants as value
 use Rattle.value_core.specs.declared.value.ColType.{ColType}
-use Rattle.value_core.specs.declared.value.ColType.TheVariants.{Int, Text}
 use Rattle.value_core.specs.declared.comparison.CmpOp.{CmpOp}
 use Rattle.value_core.specs.declared.comparison.CmpOp.TheVariants.{Eq, Ne, Lt, Le, Gt, Ge}
 use Rattle.value_core.specs.Value.{same_type, is_of_type}

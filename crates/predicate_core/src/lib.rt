@@ -10,3 +10,6 @@ pub use atom::Atom;
 pub use equal::{atom_count, has_constant, same_pred};
 pub use listing::{atoms, single_preds};
 pub use pred::{Pred, keeps, truth};
+
+#[cfg(test)]
+mod tests;

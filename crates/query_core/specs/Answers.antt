@@ -1,10 +1,10 @@
 -- The answers of a task: the standard queries of its grammar that give the output, best first.
-use Rattle.std.specs.Prelude.{ℕ, Bool, true, false, ◌&&◌, ◌==◌, List, [], ◌∷◌, map, length, Option, Some, None, if◌then◌else◌}
+use Rattle.std.specs.Prelude.{Bool, false, ◌&&◌, ◌==◌, List, [], ◌∷◌, map, length, Option, Some, None, if◌then◌else◌}
 use Rattle.std.specs.Prelude.{filter as list_filter}
 use Rattle.table_core.specs.Rows.{Row}
 use Rattle.table_core.specs.Bag.{same_rows}
 use Rattle.table_core.specs.declared.task.TaskParts.{TaskParts}
-use Rattle.query_core.specs.Tree.{Tree, Select}
+use Rattle.query_core.specs.Tree.{Select}
 use Rattle.query_core.specs.Meaning.{answer}
 use Rattle.query_core.specs.Grammar.{Numbered, queries}
 use Rattle.query_core.specs.Standard.{is_standard}

@@ -3,7 +3,6 @@ use Rattle.std.specs.Prelude.{ℕ, zero, suc, ◌+◌, Bool, true, false, List, 
 use Rattle.std.specs.Prelude.{filter as list_filter}
 use Rattle.std.specs.List.{range_with_len, enumerate_from}
 use Rattle.value_core.specs.Value.{same_type}
-use Rattle.value_core.specs.declared.value.Value.{Value}
 use Rattle.value_core.specs.declared.value.ColType.{ColType}
 use Rattle.predicate_core.specs.Atoms.{atom_list, pred_list}
 use Rattle.predicate_core.specs.declared.pred.Pred.{Pred}

@@ -1,7 +1,6 @@
 -- What a query means: its columns and its rows.
-use Rattle.std.specs.Prelude.{ℕ, Bool, true, false, not, cond, List, [], ◌∷◌, map, unwrap_or, slice_get, Option, Some, None, option_map, if◌then◌else◌}
+use Rattle.std.specs.Prelude.{ℕ, Bool, not, List, [], ◌∷◌, map, unwrap_or, slice_get, Option, Some, option_map, if◌then◌else◌}
 use Rattle.std.specs.Prelude.{filter as list_filter}
-use Rattle.std.specs.List.{list_any}
 use Rattle.value_core.specs.declared.value.ColType.{ColType}
 use Rattle.predicate_core.specs.Truth.{keeps, value_at}
 use Rattle.table_core.specs.Rows.{Row, TableData, empty_table, types_of}

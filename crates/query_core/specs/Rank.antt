@@ -1,11 +1,9 @@
 -- The rank of queries: the key, compared part by part, smaller first.
-use Rattle.std.specs.Prelude.{ℕ, ◌+◌, Bool, true, false, not, ◌||◌, ◌==◌, List, [], ◌∷◌, ◌++◌, length, count_by}
+use Rattle.std.specs.Prelude.{ℕ, ◌+◌, Bool, true, false, not, List, [], ◌∷◌, ◌++◌, length, count_by}
 use Rattle.std.specs.declared.cmp.Ordering.{Ordering}
-use Rattle.std.specs.declared.cmp.Ordering.TheVariants.{Less, Equal, Greater}
 use Rattle.std.specs.Ordering.{nat_cmp, ordering_then, is_lt}
 use Rattle.std.specs.Cmp.Lexicographic.{slice_cmp}
 use Rattle.std.specs.List.{range_with_len, list_any, position_or_len}
-use Rattle.predicate_core.specs.Atoms.{atom_list, pred_list}
 use Rattle.predicate_core.specs.Equal.{same_pred, atoms_of, uses_constant}
 use Rattle.predicate_core.specs.declared.pred.Pred.{Pred}
 use Rattle.predicate_core.specs.declared.atom.Atom.{Atom}

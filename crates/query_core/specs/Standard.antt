@@ -1,9 +1,7 @@
 -- The standard form: the first predicate of those that keep the same rows, and nothing that changes nothing.
-use Rattle.std.specs.Prelude.{ℕ, Bool, true, false, not, ◌&&◌, ◌||◌, ◌==◌, List, [], ◌∷◌, unwrap_or, find, Option, Some, None, if◌then◌else◌}
+use Rattle.std.specs.Prelude.{Bool, true, false, not, ◌&&◌, ◌||◌, List, [], unwrap_or, find}
 use Rattle.std.specs.List.{list_all}
 use Rattle.value_core.specs.declared.value.Value.{Value}
-use Rattle.value_core.specs.declared.comparison.CmpOp.{CmpOp}
-use Rattle.value_core.specs.declared.comparison.CmpOp.TheVariants.{Eq, Ne, Lt, Le, Gt, Ge}
 use Rattle.predicate_core.specs.Equal.{same_pred}
 use Rattle.predicate_core.specs.Truth.{keeps}
 use Rattle.predicate_core.specs.declared.pred.Pred.{Pred}

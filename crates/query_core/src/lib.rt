@@ -6,3 +6,6 @@ mod query;
 
 pub use node::Node;
 pub use query::Query;
+
+#[cfg(test)]
+mod tests;

@@ -8,3 +8,6 @@ mod ranked;
 pub use body::pred_number;
 pub use rank_key::{RankKey, before, key, key_order};
 pub use ranked::{Ranked, sort};
+
+#[cfg(test)]
+mod tests;

@@ -1,7 +1,6 @@
 -- Laws of rows and bags.
-use Rattle.std.proofs.Common.{◌≡◌, Bool, true, false, List, Decides}
+use Rattle.std.proofs.Common.{◌≡◌, Decides}
 use Rattle.std.specs.Cmp.Lexicographic.{pointwise_decides}
-use Rattle.value_core.specs.Value.{same}
 use Rattle.value_core.proofs.ValueLaws.{same_decides}
 use Rattle.table_core.specs.Rows.{Row}
 use Rattle.table_core.specs.Bag.{same_cells}

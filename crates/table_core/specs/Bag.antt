@@ -1,5 +1,5 @@
 -- Tables as bags: a row may occur several times, and the order of rows carries no meaning.
-use Rattle.std.specs.Prelude.{ℕ, ◌<◌, Bool, List, [], ◌∷◌, ◌++◌, length, ◌==◌, ◌&&◌, ◌||◌, false, nat_lt, count_by}
+use Rattle.std.specs.Prelude.{ℕ, Bool, List, [], ◌∷◌, ◌++◌, length, ◌==◌, ◌&&◌, ◌||◌, false, count_by}
 use Rattle.std.specs.List.{list_all, list_any}
 use Rattle.std.specs.Cmp.Lexicographic.{pointwise}
 use Rattle.value_core.specs.Value.{same}

@@ -15,3 +15,6 @@ pub use column::Column;
 pub use table::{PushFault, Table};
 pub use task::{BadPart, Task, TaskParts};
 pub use tuple::Tuple;
+
+#[cfg(test)]
+mod tests;

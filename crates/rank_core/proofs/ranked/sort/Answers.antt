@@ -1,8 +1,7 @@
-use Rattle.std.proofs.Common.{◌≡◌, Bool, map, ap, ◌∙◌, rules}
+use Rattle.std.proofs.Common.{Bool, map, ap, ◌∙◌, rules}
 use Rattle.std.specs.Cmp.{IsStrictWeakOrder}
 use Rattle.std.proofs.lemmas.List.Sorted.{ranks_by, answers_always}
-use Rattle.query_core.specs.Answers.{comes_before, ascending}
-use Rattle.query_core.specs.Rank.{Key, key_order}
+use Rattle.query_core.specs.Answers.{comes_before}
 use Rattle.rank_core.specs.View.{ranked_query}
 use Rattle.rank_core.specs.declared.ranked.Ranked.{Ranked}
 use Rattle.rank_core.proofs.KeyLaws.{key_order_total}
