@@ -5,7 +5,7 @@ use Rattle.io_edge.specs.Gained.{Gained, GainedFront}
 use Rattle.table_core.specs.declared.task.TaskParts.{TaskParts}
 use Rattle.query_core.specs.Answers.{answers}
 use Rattle.sql_print.specs.Text.{text}
-use Rattle.task_read.specs.Told.{Told, WhenReady, MayRefuse}
+use Rattle.task_read.specs.Told.{WhenReady, MayRefuse}
 use Rattle.task_read.specs.Task.{task_told, IsRead}
 use Rattle.top_call.specs.declared.end.End.{End}
 use Rattle.top_call.specs.declared.end.End.TheVariants.{Listed, Empty, Usage, ReadFault, WriteFault, OutOfMemory, NotYet}

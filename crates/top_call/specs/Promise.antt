@@ -1,11 +1,9 @@
 -- What a run promises of its end.
 use Rattle.std.specs.Prelude.{◌≡◌, ℕ, ◌<◌, List, [], length, Option, Some, None}
 use Rattle.io_edge.specs.Rose.{Rose}
-use Rattle.io_edge.specs.Gained.{Gained, GainedFront}
 use Rattle.table_core.specs.declared.task.TaskParts.{TaskParts}
 use Rattle.query_core.specs.Answers.{answers}
-use Rattle.sql_print.specs.Text.{text}
-use Rattle.task_read.specs.Told.{Told, untold, refused, ready, WhenReady, MayRefuse}
+use Rattle.task_read.specs.Told.{Told, untold, refused, ready}
 use Rattle.task_read.specs.Task.{task_told, IsRead}
 use Rattle.top_call.specs.Command.{command}
 use Rattle.top_call.specs.declared.end.End.{End}
