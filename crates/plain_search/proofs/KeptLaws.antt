@@ -1,5 +1,5 @@
 -- Laws of what plain listing keeps.
-use Rattle.std.proofs.Common.{◌≡◌, ℕ, ◌+◌, Bool, true, false, ◌&&◌, not, List, [], ◌∷◌, ◌++◌, length, map, refl, sym, ap, ◌∙◌}
+use Rattle.std.proofs.Common.{◌≡◌, ℕ, false, ◌&&◌, not, List, [], ◌∷◌, ◌++◌, length, map, refl, ap, ◌∙◌}
 use Rattle.std.specs.Prelude.{filter as list_filter}
 use Rattle.std.specs.List.{flat_map}
 use Rattle.std.proofs.lemmas.List.{map-append, append-nil}
@@ -13,7 +13,7 @@ use Rattle.query_core.specs.Meaning.{input_at}
 use Rattle.predicate_core.specs.Equal.{same_pred}
 use Rattle.table_core.specs.Rows.{Row}
 use Rattle.value_core.specs.declared.value.Value.{Value}
-use Rattle.query_core.specs.Answers.{RankedQuery, ranked, is_answer, found}
+use Rattle.query_core.specs.Answers.{ranked, is_answer, found}
 use Rattle.plain_search.specs.Kept.{kept}
 
 -- a query with the number of its skeleton

@@ -5,7 +5,6 @@ use Rattle.table_core.specs.Rows.{Row}
 use Rattle.table_core.specs.declared.task.TaskParts.{TaskParts}
 use Rattle.query_core.specs.Tree.{Tree, Select}
 use Rattle.query_core.specs.Meaning.{rows}
-use Rattle.query_core.specs.Grammar.{Numbered}
 use Rattle.query_core.specs.Standard.{is_standard_tree}
 use Rattle.query_core.specs.Rank.{pred_numbers, tree_cost}
 use Rattle.query_core.specs.Answers.{RankedQuery, ranked, is_answer}

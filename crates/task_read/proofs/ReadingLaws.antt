@@ -1,5 +1,5 @@
 -- Laws of readers that read one thing after another.
-use Rattle.std.proofs.Common.{◌≡◌, ℕ, ◌≤◌, ◌⊎◌, inl, inr, List, [], ◌∷◌, ◌++◌, Option, Result, Ok, Err, IfErr, MatchResult, refl, sym, ap, ◌∙◌, append_assoc, subst}
+use Rattle.std.proofs.Common.{◌≡◌, ℕ, ◌≤◌, inr, List, [], ◌∷◌, ◌++◌, Option, Result, Ok, Err, IfErr, MatchResult, ◌∙◌, append_assoc, subst}
 use Rattle.io_edge.specs.Rose.{Rose}
 use Rattle.io_edge.proofs.Gains.{rose_later}
 use Rattle.table_core.specs.Rows.{TableData}
@@ -9,7 +9,7 @@ use Rattle.task_file.specs.declared.task.TaskFile.{TaskFile}
 use Rattle.task_read.specs.Task.{table_told, input_told, inputs_told, parts_told, plan_told, task_told, built, IsReadAsInput, IsReadAsTable, IsRead}
 use Rattle.task_read.specs.declared.fault.TaskEnd.{TaskEnd}
 use Rattle.task_read.specs.declared.fault.TaskEnd.TheVariants.{ReadFault, WrongForm, OutOfMemory}
-use Rattle.task_read.specs.Told.{Told, untold, refused, ready, ◌>>=◌, found, WhenReady, MayRefuse}
+use Rattle.task_read.specs.Told.{Told, untold, refused, ready, ◌>>=◌, found, WhenReady}
 use Rattle.task_read.specs.Reading.{Reads, Refuses, IfReadFault}
 
 -- a refusal of one thing is a refusal of what is made of it

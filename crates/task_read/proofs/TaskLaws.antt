@@ -1,5 +1,5 @@
 -- What it says of parts that they are, or aren't, made into a task.
-use Rattle.std.proofs.Common.{◌≡◌, ℕ, Bool, true, false, if◌then◌else◌, Option, Some, None, Result, Ok, Err, MatchOption, refl, sym}
+use Rattle.std.proofs.Common.{◌≡◌, ℕ, Bool, true, false, if◌then◌else◌, Option, Some, None, Result, Ok, Err, MatchOption, refl}
 use Rattle.table_core.specs.declared.task.BadPart.{BadPart}
 use Rattle.table_core.specs.declared.task.TaskParts.{TaskParts}
 use Rattle.task_read.specs.Told.{found, WhenReady, MayRefuse}

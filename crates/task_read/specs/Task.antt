@@ -1,5 +1,5 @@
 -- The task that a folder tells.
-use Rattle.std.specs.Prelude.{◌≡◌, ℕ, ◌⊎◌, Bool, true, false, ◌&&◌, ◌==◌, nat_le, List, [], ◌∷◌, length, codes, Option, Some, None, if◌then◌else◌}
+use Rattle.std.specs.Prelude.{◌≡◌, ℕ, ◌⊎◌, Bool, false, ◌&&◌, ◌==◌, nat_le, List, [], ◌∷◌, length, codes, Option, Some, None, if◌then◌else◌}
 use Rattle.table_core.specs.Rows.{TableData}
 use Rattle.table_core.specs.Limits.{first_bad_part}
 use Rattle.table_core.specs.declared.agg_set.AggSet.{AggSet}

@@ -1,5 +1,5 @@
 -- What is told of something that is read: nothing, that it isn't as it has to be, or the thing itself.
-use Rattle.std.specs.Prelude.{◌≡◌, Option, Some, None}
+use Rattle.std.specs.Prelude.{Option, Some, None}
 
 pub data Told (A : Type 0) : Type 0 where
   untold : Told A

@@ -1,5 +1,4 @@
 use Rattle.std.proofs.Common.{arith, take}
-use Rattle.std.proofs.lemmas.Grind.{common_steps}
 use Rattle.std.proofs.lemmas.List.{take_more}
 use Rattle.bag_eval.proofs.FirstLaws.{firsts_push}
 use Rattle.bag_eval.proofs.select.first_rows.Goals as goal
