@@ -1,8 +1,8 @@
 -- Laws of lists by number: elements of two lists joined, and how many pairs and triples a list has.
-use Rattle.std.proofs.Common.{◌≡◌, le-leb, Bool, true, false, nat_le, if◌then◌else◌, ℕ, zero, suc, ◌+◌, ◌-◌, ◌*◌, ◌<◌, ◌≤◌, List, [], ◌∷◌, ◌++◌, length, map, Option, Some, None, option_map, refl, sym, ap, ◌∙◌, arith, drop, get_or, length-append, length-drop}
+use Rattle.std.proofs.Common.{◌≡◌, le-leb, Bool, true, false, nat_le, if◌then◌else◌, ℕ, zero, suc, ◌+◌, ◌-◌, ◌*◌, ◌<◌, ◌≤◌, List, [], ◌∷◌, ◌++◌, length, map, Option, Some, option_map, refl, ap, ◌∙◌, arith, drop, get_or, length-append, length-drop}
 use Rattle.std.specs.List.{slice_get}
 use Rattle.std.proofs.lemmas.List.{length-map, drop_more}
-use Rattle.std.proofs.lemmas.Option.{slice_get-map, slice_get_past}
+use Rattle.std.proofs.lemmas.Option.{slice_get-map}
 use Rattle.predicate_core.specs.declared.atom.Atom.{Atom}
 use Rattle.predicate_core.specs.declared.pred.Pred.{Pred}
 use Rattle.predicate_core.specs.declared.pred.Pred.TheVariants.{One, And2, Or2, And3, Or3}

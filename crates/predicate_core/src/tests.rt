@@ -100,6 +100,7 @@ fn numbers_more_than_32_bits(rt: HostRuntime) -> Result<(), Fail> {
     for column in 0..3000usize {
         atoms.push(Atom::IsNull(column))?;
     }
+    assert!(rt; atoms.len() <= 3000);
     let list = preds(rt.alloc(), atoms.as_slice(), 3)?;
     assert_eq!(rt; list.len(), 9_000_002_001);
     let last = Pred::Or3(Atom::IsNull(2997), Atom::IsNull(2998), Atom::IsNull(2999));

@@ -1,4 +1,4 @@
-use Rattle.std.proofs.Common.{◌≡◌, ◌+◌, ◌-◌, ◌*◌, ◌<◌, length, sym, ap, ◌∙◌, arith}
+use Rattle.std.proofs.Common.{◌≡◌, ◌+◌, ◌-◌, ◌*◌, ◌<◌, length, sym, ◌∙◌, arith}
 use Rattle.predicate_core.specs.Counts.{pair_count}
 use Rattle.predicate_core.proofs.NumberLaws.{more_front, more_back}
 use Rattle.predicate_core.proofs.pred_list.two_up.Goals as goal
