@@ -53,9 +53,18 @@ abbrev pub triples : List Atom → List (Atom × Atom × Atom)
 triples [] = []
 triples (a ∷ rest) = map (λ p. (a, p.0, p.1)) (pairs rest) ++ triples rest
 
+-- the predicates of two atoms: the ANDs, and then the ORs
+abbrev pub two_atoms : List Atom → List Pred
+two_atoms atoms = map (λ p. And2 p.0 p.1) (pairs atoms) ++ map (λ p. Or2 p.0 p.1) (pairs atoms)
+
+-- the predicates of three atoms: the ANDs, and then the ORs
+abbrev pub three_atoms : List Atom → List Pred
+three_atoms atoms = map (λ p. And3 p.0 p.1 p.2) (triples atoms) ++ map (λ p. Or3 p.0 p.1 p.2) (triples atoms)
+
+-- the predicates of two or three atoms, as far as the bound goes
+abbrev pub more_atoms : List Atom → ℕ → List Pred
+more_atoms atoms bound = (if nat_le 2 bound then two_atoms atoms else []) ++ (if nat_le 3 bound then three_atoms atoms else [])
+
 -- the predicates of up to `bound` atoms: Always, single atoms, ANDs and ORs of two, ANDs and ORs of three
 abbrev pub pred_list : List Atom → ℕ → List Pred
-pred_list atoms bound =
-    Always ∷ (map One atoms
-    ++ ((if nat_le 2 bound then map (λ p. And2 p.0 p.1) (pairs atoms) ++ map (λ p. Or2 p.0 p.1) (pairs atoms) else [])
-    ++ (if nat_le 3 bound then map (λ p. And3 p.0 p.1 p.2) (triples atoms) ++ map (λ p. Or3 p.0 p.1 p.2) (triples atoms) else [])))
+pred_list atoms bound = Always ∷ (map One atoms ++ more_atoms atoms bound)

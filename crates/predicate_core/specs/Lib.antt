@@ -1,3 +1,4 @@
 pub mod Atoms
+pub mod Counts
 pub mod Equal
 pub mod Truth

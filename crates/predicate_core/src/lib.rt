@@ -4,12 +4,15 @@
 mod atom;
 mod equal;
 mod listing;
+mod numbers;
 mod pred;
+mod pred_list;
 
 pub use atom::Atom;
 pub use equal::{atom_count, has_constant, same_pred};
 pub use listing::{atoms, single_preds};
 pub use pred::{Pred, keeps, truth};
+pub use pred_list::{PredList, preds};
 
 #[cfg(test)]
 mod tests;

@@ -1,4 +1,6 @@
-use crate::{Atom, Pred, atom_count, atoms, has_constant, keeps, same_pred, single_preds, truth};
+use crate::{
+    Atom, Pred, atom_count, atoms, has_constant, keeps, preds, same_pred, single_preds, truth,
+};
 use std::test::Fail;
 use value_core::{CmpOp, ColType, Truth, Value};
 
@@ -68,4 +70,42 @@ fn keeps_rows(rt: HostRuntime) {
             assert_eq!(rt; same_pred(pred, other), i == j, "{i} and {j}");
         }
     }
+}
+
+#[test]
+fn numbers_predicates(rt: HostRuntime) -> Result<(), Fail> {
+    let alloc = rt.alloc();
+    let atoms = atoms(alloc, &[ColType::Int, ColType::Int], &[Value::Int(7)])?;
+    assert_eq!(rt; atoms.len(), 22);
+    for (bound, want) in [(1, 23), (2, 485), (3, 3565)] {
+        let list = preds(alloc, atoms.as_slice(), bound)?;
+        assert_eq!(rt; list.len(), want);
+        assert_eq!(rt; list.at(want), None);
+        let mut seen = Vec::new(alloc);
+        for number in 0..want {
+            let pred = list.at(number).ok_or("no predicate")?;
+            assert!(rt;
+                !seen.iter().any(|other| same_pred(other, &pred)),
+                "{number}"
+            );
+            seen.push(pred)?;
+        }
+    }
+    Ok(())
+}
+
+#[test]
+fn numbers_more_than_32_bits(rt: HostRuntime) -> Result<(), Fail> {
+    let mut atoms = Vec::new(rt.alloc());
+    for column in 0..3000usize {
+        atoms.push(Atom::IsNull(column))?;
+    }
+    assert!(rt; atoms.len() <= 3000);
+    let list = preds(rt.alloc(), atoms.as_slice(), 3)?;
+    assert_eq!(rt; list.len(), 9_000_002_001);
+    let last = Pred::Or3(Atom::IsNull(2997), Atom::IsNull(2998), Atom::IsNull(2999));
+    assert_eq!(rt; list.at(0), Some(Pred::Always));
+    assert_eq!(rt; list.at(9_000_002_000), Some(last));
+    assert_eq!(rt; list.at(9_000_002_001), None);
+    Ok(())
 }

@@ -1,0 +1,7 @@
+use Rattle.std.proofs.Common.{◌≡◌, drop}
+use Rattle.std.specs.List.{slice_get}
+use Rattle.predicate_core.specs.Atoms.{pairs}
+use Rattle.predicate_core.proofs.numbers.pair_at.Given as goal
+
+abbrev pub invariant-loop-i : goal.invariant-loop-i
+invariant-loop-i l = slice_get (pairs (drop l.i l.atoms)) l.k ≡ slice_get (pairs l.atoms) l.fn.number
