@@ -44,12 +44,12 @@ abbrev pub atom_list : List ColType → List Value → List Atom
 atom_list types constants = (columns_compared 0 types ++ constants_compared 0 constants types) ++ null_tests 0 types
 
 -- each two atoms of a list, the earlier first
-abbrev pub pairs : List Atom → List (Atom × Atom)
+abbrev pub pairs : {X : Type 0} → List X → List (X × X)
 pairs [] = []
 pairs (a ∷ rest) = map (λ b. (a, b)) rest ++ pairs rest
 
 -- each three atoms of a list, the earlier first
-abbrev pub triples : List Atom → List (Atom × Atom × Atom)
+abbrev pub triples : {X : Type 0} → List X → List (X × X × X)
 triples [] = []
 triples (a ∷ rest) = map (λ p. (a, p.0, p.1)) (pairs rest) ++ triples rest
 

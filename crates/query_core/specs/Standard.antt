@@ -1,15 +1,18 @@
 -- The standard form: the first predicate of those that keep the same rows, and nothing that changes nothing.
-use Rattle.std.specs.Prelude.{Bool, true, false, not, ◌&&◌, ◌||◌, List, [], unwrap_or, find}
+use Rattle.std.specs.Prelude.{Bool, true, false, not, ◌&&◌, ◌||◌, List, [], ◌++◌, unwrap_or, find}
 use Rattle.std.specs.List.{list_all}
 use Rattle.value_core.specs.declared.value.Value.{Value}
+use Rattle.value_core.specs.declared.value.ColType.{ColType}
 use Rattle.predicate_core.specs.Equal.{same_pred}
 use Rattle.predicate_core.specs.Truth.{keeps}
 use Rattle.predicate_core.specs.declared.pred.Pred.{Pred}
 use Rattle.table_core.specs.Rows.{Row}
 use Rattle.table_core.specs.Bag.{has_double}
 use Rattle.table_core.specs.declared.task.TaskParts.{TaskParts}
-use Rattle.query_core.specs.Tree.{Tree, Select, base, filter}
-use Rattle.query_core.specs.Meaning.{rows, selected}
+use Rattle.query_core.specs.Tree.{Tree, Select}
+use Rattle.query_core.specs.Tree as t
+use Rattle.query_core.specs.Joins.{crossed}
+use Rattle.query_core.specs.Meaning.{columns, rows, selected}
 use Rattle.query_core.specs.Grammar.{predicates}
 
 -- whether two truth values are the same
@@ -25,24 +28,41 @@ alike constants candidates p q = list_all (λ row. same_bool (keeps constants p 
 abbrev pub first_alike : List Value → List Row → List Pred → Pred → Pred
 first_alike constants candidates preds p = unwrap_or (find (alike constants candidates p) preds) p
 
+-- whether a predicate is the first of a list that keep the same rows
+abbrev pub is_first_alike : List Value → List Row → List Pred → Pred → Bool
+is_first_alike constants candidates preds p = same_pred (first_alike constants candidates preds p) p
+
 -- whether a predicate keeps all of some rows
 abbrev pub keeps_all : List Value → List Row → Pred → Bool
 keeps_all constants candidates p = list_all (keeps constants p) candidates
 
--- the rows that a hole's predicate chooses from
-abbrev pub candidates : TaskParts → Tree → List Row
-candidates task child = unwrap_or (rows task child) []
+-- the rows of a tree, none where a sum in it has no value
+abbrev pub rows_or_none : TaskParts → Tree → List Row
+rows_or_none task tree = unwrap_or (rows task tree) []
+
+-- whether a predicate over columns of these types, choosing from these rows, is the first of those that keep the same
+abbrev pub is_first : TaskParts → List ColType → List Row → Pred → Bool
+is_first task types candidates p = is_first_alike task.constants candidates (predicates task types) p
 
 -- whether a filter's predicate is standard: the first of those alike, and not one that keeps all
 abbrev pub is_standard_filter : TaskParts → Tree → Pred → Bool
 is_standard_filter task child p =
-    same_pred (first_alike task.constants (candidates task child) (predicates task child) p) p && not (keeps_all task.constants (candidates task child) p)
+    is_first task (columns task child) (rows_or_none task child) p && not (keeps_all task.constants (rows_or_none task child) p)
+
+-- whether the predicate of a join or a left join is standard: the first of those alike on all pairs
+abbrev pub is_standard_pair : TaskParts → Tree → Tree → Pred → Bool
+is_standard_pair task a b p = is_first task (columns task a ++ columns task b) (crossed (rows_or_none task a) (rows_or_none task b)) p
 
 -- whether each predicate of a tree is standard
 abbrev pub is_standard_tree : TaskParts → Tree → Bool
-is_standard_tree task (base table) = true
-is_standard_tree task (filter child p) = is_standard_tree task child && is_standard_filter task child p
+is_standard_tree task (t.base table) = true
+is_standard_tree task (t.filter child p) = is_standard_tree task child && is_standard_filter task child p
+is_standard_tree task (t.join a b p) = (is_standard_tree task a && is_standard_tree task b) && is_standard_pair task a b p
+is_standard_tree task (t.left a b p) = (is_standard_tree task a && is_standard_tree task b) && is_standard_pair task a b p
+is_standard_tree task (t.group child keys agg) = is_standard_tree task child
+is_standard_tree task (t.union_all a b) = is_standard_tree task a && is_standard_tree task b
+is_standard_tree task (t.union a b) = is_standard_tree task a && is_standard_tree task b
 
 -- whether a query is standard: its predicates are, and where it removes duplicates there are some
 abbrev pub is_standard : TaskParts → Select → Bool
-is_standard task q = is_standard_tree task q.body && (not q.distinct || has_double (selected q.picks (candidates task q.body)))
+is_standard task q = is_standard_tree task q.body && (not q.distinct || has_double (selected q.picks (rows_or_none task q.body)))

@@ -9,6 +9,11 @@ use Rattle.query_core.specs.declared.query.Query.{Query}
 abbrev pub layer : Node-F Tree → Tree
 layer (Node-F.Base n) = t.base n
 layer (Node-F.Filter child p) = t.filter child p
+layer (Node-F.Join a b p) = t.join a b p
+layer (Node-F.Left a b p) = t.left a b p
+layer (Node-F.Group child keys agg) = t.group child keys agg
+layer (Node-F.UnionAll a b) = t.union_all a b
+layer (Node-F.Union a b) = t.union a b
 
 -- the tree of a node
 abbrev pub tree : Node → Tree
