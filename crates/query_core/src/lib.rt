@@ -2,10 +2,12 @@
 #![tactic(auto)]
 
 mod agg;
+mod fault;
 mod node;
 mod query;
 
 pub use agg::Agg;
+pub use fault::QueryFault;
 pub use node::Node;
 pub use query::Query;
 
