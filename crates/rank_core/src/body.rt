@@ -1,21 +1,31 @@
 ghost use Rattle.std.specs.Prelude.{◌≡◌, ◌<◌, ◌+◌, ◌^◌, not, count_by};
-ghost use Rattle.std.specs.List.{list_any, range_with_len, position_or_len};
-ghost use Rattle.predicate_core.specs.Equal.{same_pred, uses_constant};
+ghost use Rattle.std.specs.List.{list_any, range_with_len};
+ghost use Rattle.predicate_core.specs.Equal.{uses_constant};
 ghost use Rattle.query_core.specs.Rank.{tree_atoms, tree_cost, unused_constants};
 ghost use Rattle.query_core.specs.View.{tree};
 
-use predicate_core::{Pred, atom_count, has_constant, same_pred};
+use predicate_core::{atom_count, has_constant};
 use query_core::Node;
 use table_core::TaskParts;
 
 // Whether a tree compares with the constant of this number.
+#[tactic(auto, using(crate::proofs::BodyLaws::any_of_both))]
 fn uses_constant(node: &Node, number: usize) -> bool
     ensures { result ≡ list_any (uses_constant number) (tree_atoms (tree node.now)) }
 {
     match node {
         Node::Base(_) => false,
-        Node::Filter(child, pred) => uses_constant(child.get(), number)
-            || has_constant(pred, number),
+        Node::Filter(child, pred) => {
+            uses_constant(child.get(), number) || has_constant(pred, number)
+        }
+        Node::Join(a, b, pred) | Node::Left(a, b, pred) => {
+            let by_parts = uses_constant(a.get(), number) || uses_constant(b.get(), number);
+            by_parts || has_constant(pred, number)
+        }
+        Node::Group(child, _, _) => uses_constant(child.get(), number),
+        Node::UnionAll(a, b) | Node::Union(a, b) => {
+            uses_constant(a.get(), number) || uses_constant(b.get(), number)
+        }
     }
 }
 
@@ -36,17 +46,18 @@ pub fn tree_cost(node: &Node) -> u64
     match node {
         Node::Base(_) => 1,
         Node::Filter(child, pred) => tree_cost(child.get()) + (1 + atom_count(pred) as u64),
-    }
-}
-
-/// The number of a predicate: its place in a list, the list's length where it isn't there.
-pub fn pred_number(preds: &[Pred], pred: &Pred) -> usize
-    ensures { result ≡ position_or_len (same_pred pred.now) preds.now }
-{
-    for (at, other) in preds.iter().enumerate() {
-        if same_pred(pred, other) {
-            return at;
+        Node::Join(a, b, pred) => {
+            let parts = tree_cost(a.get()) + tree_cost(b.get());
+            parts + (2 + atom_count(pred) as u64)
+        }
+        Node::Left(a, b, pred) => {
+            let parts = tree_cost(a.get()) + tree_cost(b.get());
+            parts + (3 + atom_count(pred) as u64)
+        }
+        Node::Group(child, _, _) => tree_cost(child.get()) + 3,
+        Node::UnionAll(a, b) | Node::Union(a, b) => {
+            let parts = tree_cost(a.get()) + tree_cost(b.get());
+            parts + 3
         }
     }
-    preds.len()
 }

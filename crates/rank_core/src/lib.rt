@@ -5,7 +5,6 @@ mod body;
 mod rank_key;
 mod ranked;
 
-pub use body::pred_number;
 pub use rank_key::{RankKey, before, key, key_order};
 pub use ranked::{Ranked, sort};
 

@@ -17,7 +17,7 @@ pub struct RankKey {
     unused: usize,
     cost: u64,
     skeleton: u32,
-    numbers: Items<usize>,
+    numbers: Items<u64>,
     picks: Items<usize>,
     distinct: bool,
 }
@@ -43,7 +43,7 @@ pub fn key(
     task: &TaskParts,
     skeleton: u32,
     query: &Query,
-    numbers: &[usize],
+    numbers: &[u64],
 ) -> Result<RankKey, OutOfMemory>
     requires numbered { numbers.now ≡ pred_numbers task.now (tree query.now.body) }
     requires small { tree_cost (tree query.now.body) < 2 ^ 32 }
