@@ -1,1 +1,5 @@
+pub mod KeepsLaws
 pub mod NumberLaws
+pub mod OnceLaws
+pub mod OnceLists
+pub mod SameLaws

@@ -21,16 +21,16 @@ get_back [] ys j k e = ap (slice_get ys) (omega (arith, e))
 get_back (x ∷ xs) ys j zero e = absurd (omega (arith, e))
 get_back (x ∷ xs) ys j (suc k) e = get_back xs ys j k (omega (arith, e))
 
-pub length-pairs : (atoms : List Atom) → length (pairs atoms) ≡ pair_count (length atoms)
+pub length-pairs : {X : Type 0} (xs : List X) → length (pairs xs) ≡ pair_count (length xs)
 length-pairs [] = refl
-length-pairs (a ∷ rest) =
-    let with_a : Atom → Atom × Atom = λ b. (a, b) in
-    length-append (map with_a rest) (pairs rest) ∙ rw (length-map rest with_a, length-pairs rest) refl
+length-pairs {X} (x ∷ rest) =
+    let with_x : X → X × X = λ y. (x, y) in
+    length-append (map with_x rest) (pairs rest) ∙ rw (length-map rest with_x, length-pairs rest) refl
 
-pub length-triples : (atoms : List Atom) → length (triples atoms) ≡ triple_count (length atoms)
+pub length-triples : {X : Type 0} (xs : List X) → length (triples xs) ≡ triple_count (length xs)
 length-triples [] = refl
-length-triples (a ∷ rest) =
-    let with_a : Atom × Atom → Atom × Atom × Atom = λ p. (a, p.0, p.1) in
+length-triples {X} (a ∷ rest) =
+    let with_a : X × X → X × X × X = λ p. (a, p.0, p.1) in
     length-append (map with_a (pairs rest)) (triples rest) ∙ rw (length-map (pairs rest) with_a, length-pairs rest, length-triples rest) refl
 
 -- twice the pairs and the atoms are the square
@@ -67,43 +67,43 @@ get_drop [] (suc n) k = refl
 get_drop (x ∷ xs) (suc n) k = let e : suc n + k ≡ suc (n + k) = omega arith in rw e (get_drop xs n k)
 
 -- the pairs of the first atom of what is left come first
-pub pair_here : (atoms : List Atom) (i k : ℕ) (d : Atom) → i < length atoms → k < length atoms - i - 1 → slice_get (pairs (drop i atoms)) k ≡ Some (get_or atoms i d, get_or atoms (i + 1 + k) d)
-pair_here atoms i k d below within =
-    let with_a : Atom → Atom × Atom = λ c. (get_or atoms i d, c) in
+pub pair_here : {X : Type 0} (atoms : List X) (i k : ℕ) (d : X) → i < length atoms → k < length atoms - i - 1 → slice_get (pairs (drop i atoms)) k ≡ Some (get_or atoms i d, get_or atoms (i + 1 + k) d)
+pair_here {X} atoms i k d below within =
+    let with_a : X → X × X = λ c. (get_or atoms i d, c) in
     let rest = drop (i + 1) atoms in
     let short : k < length (map with_a rest) = rw (length-map rest with_a, length-drop (i + 1) atoms) (omega arith) in
     let here : slice_get rest k ≡ Some (get_or atoms (i + 1 + k) d) = get_drop atoms (i + 1) k ∙ get_some atoms (i + 1 + k) d (omega arith) in
     rw (drop_more atoms i d below) (get_front (map with_a rest) (pairs rest) k short ∙ (slice_get-map with_a rest k ∙ ap (option_map with_a) here))
 
 -- the other pairs come after them
-pub pair_later : (atoms : List Atom) (i k j : ℕ) (d : Atom) → i < length atoms → k ≡ (length atoms - i - 1) + j → slice_get (pairs (drop i atoms)) k ≡ slice_get (pairs (drop (i + 1) atoms)) j
-pair_later atoms i k j d below past =
-    let with_a : Atom → Atom × Atom = λ c. (get_or atoms i d, c) in
+pub pair_later : {X : Type 0} (atoms : List X) (i k j : ℕ) (d : X) → i < length atoms → k ≡ (length atoms - i - 1) + j → slice_get (pairs (drop i atoms)) k ≡ slice_get (pairs (drop (i + 1) atoms)) j
+pair_later {X} atoms i k j d below past =
+    let with_a : X → X × X = λ c. (get_or atoms i d, c) in
     let rest = drop (i + 1) atoms in
     let long : k ≡ length (map with_a rest) + j = rw (length-map rest with_a, length-drop (i + 1) atoms) (omega arith) in
     rw (drop_more atoms i d below) (get_back (map with_a rest) (pairs rest) j k long)
 
 -- the triples of the first atom of what is left come first, by the pairs of the rest
-pub triple_here : (atoms : List Atom) (i k : ℕ) (d : Atom) → i < length atoms → k < pair_count (length (drop (i + 1) atoms))
+pub triple_here : {X : Type 0} (atoms : List X) (i k : ℕ) (d : X) → i < length atoms → k < pair_count (length (drop (i + 1) atoms))
     → slice_get (triples (drop i atoms)) k ≡ option_map (λ p. (get_or atoms i d, p.0, p.1)) (slice_get (pairs (drop (i + 1) atoms)) k)
-triple_here atoms i k d below within =
-    let with_a : Atom × Atom → Atom × Atom × Atom = λ p. (get_or atoms i d, p.0, p.1) in
+triple_here {X} atoms i k d below within =
+    let with_a : X × X → X × X × X = λ p. (get_or atoms i d, p.0, p.1) in
     let rest = drop (i + 1) atoms in
     let short : k < length (map with_a (pairs rest)) = rw (length-map (pairs rest) with_a, length-pairs rest) within in
     rw (drop_more atoms i d below) (get_front (map with_a (pairs rest)) (triples rest) k short ∙ slice_get-map with_a (pairs rest) k)
 
 -- the other triples come after them
-pub triple_later : (atoms : List Atom) (i k j : ℕ) (d : Atom) → i < length atoms → k ≡ pair_count (length (drop (i + 1) atoms)) + j → slice_get (triples (drop i atoms)) k ≡ slice_get (triples (drop (i + 1) atoms)) j
-triple_later atoms i k j d below past =
-    let with_a : Atom × Atom → Atom × Atom × Atom = λ p. (get_or atoms i d, p.0, p.1) in
+pub triple_later : {X : Type 0} (atoms : List X) (i k j : ℕ) (d : X) → i < length atoms → k ≡ pair_count (length (drop (i + 1) atoms)) + j → slice_get (triples (drop i atoms)) k ≡ slice_get (triples (drop (i + 1) atoms)) j
+triple_later {X} atoms i k j d below past =
+    let with_a : X × X → X × X × X = λ p. (get_or atoms i d, p.0, p.1) in
     let rest = drop (i + 1) atoms in
     let long : k ≡ length (map with_a (pairs rest)) + j = rw (length-map (pairs rest) with_a, length-pairs rest) past in
     rw (drop_more atoms i d below) (get_back (map with_a (pairs rest)) (triples rest) j k long)
 
 -- a triple by its first atom and the pair that was found, or not, behind it
-pub triple_found : (atoms : List Atom) (i k : ℕ) (d : Atom) (found : Option (Atom × Atom)) → i < length atoms → k < pair_count (length (drop (i + 1) atoms)) → found ≡ slice_get (pairs (drop (i + 1) atoms)) k
+pub triple_found : {X : Type 0} (atoms : List X) (i k : ℕ) (d : X) (found : Option (X × X)) → i < length atoms → k < pair_count (length (drop (i + 1) atoms)) → found ≡ slice_get (pairs (drop (i + 1) atoms)) k
     → slice_get (triples (drop i atoms)) k ≡ option_map (λ p. (get_or atoms i d, p.0, p.1)) found
-triple_found atoms i k d found below within is = triple_here atoms i k d below within ∙ rw is refl
+triple_found {X} atoms i k d found below within is = triple_here atoms i k d below within ∙ rw is refl
 
 -- an element of a list under one function, and then under another
 pub joined_front : {A B : Type 0} (f g : A → B) (xs : List A) (k : ℕ) → k < length xs → slice_get (map f xs ++ map g xs) k ≡ option_map f (slice_get xs k)

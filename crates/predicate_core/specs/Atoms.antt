@@ -43,12 +43,12 @@ null_tests i (t ∷ ts) = IsNull i ∷ NotNull i ∷ null_tests (i + 1) ts
 abbrev pub atom_list : List ColType → List Value → List Atom
 atom_list types constants = (columns_compared 0 types ++ constants_compared 0 constants types) ++ null_tests 0 types
 
--- each two atoms of a list, the earlier first
+-- each two elements of a list, the earlier first
 abbrev pub pairs : {X : Type 0} → List X → List (X × X)
 pairs [] = []
 pairs (a ∷ rest) = map (λ b. (a, b)) rest ++ pairs rest
 
--- each three atoms of a list, the earlier first
+-- each three elements of a list, the earlier first
 abbrev pub triples : {X : Type 0} → List X → List (X × X × X)
 triples [] = []
 triples (a ∷ rest) = map (λ p. (a, p.0, p.1)) (pairs rest) ++ triples rest

@@ -1,4 +1,5 @@
 pub mod Atoms
 pub mod Counts
 pub mod Equal
+pub mod Laws
 pub mod Truth

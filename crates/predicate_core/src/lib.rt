@@ -3,6 +3,7 @@
 
 mod atom;
 mod equal;
+mod laws;
 mod listing;
 mod numbers;
 mod pred;
@@ -10,6 +11,9 @@ mod pred_list;
 
 pub use atom::Atom;
 pub use equal::{atom_count, has_constant, same_pred};
+pub use laws::{
+    atoms_are_once, keeps_is_by_atoms, numbers_are_places, preds_are_once, same_pred_is_equality,
+};
 pub use listing::{atoms, single_preds};
 pub use pred::{Pred, keeps, truth};
 pub use pred_list::{PredList, preds};
