@@ -7,7 +7,7 @@ use Rattle.std.proofs.lemmas.List.Elements.{filter-append}
 use Rattle.table_core.specs.Rows.{Row}
 use Rattle.table_core.specs.Bag.{same_cells}
 use Rattle.table_core.proofs.BagLaws.{same_cells_decides}
-use Rattle.query_core.specs.Meaning.{firsts}
+use Rattle.query_core.specs.Firsts.{firsts}
 
 -- rows other than x
 abbrev others : Row → List Row → List Row

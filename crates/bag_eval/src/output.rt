@@ -3,7 +3,8 @@ ghost use Rattle.std.specs.List.{list_all};
 ghost use Rattle.table_core.specs.Bag.{same_cells, count, same_rows};
 ghost use Rattle.value_core.specs.Value.{same};
 ghost use Rattle.predicate_core.specs.Truth.{value_at};
-ghost use Rattle.query_core.specs.Meaning.{projected, selected, firsts, given_rows};
+ghost use Rattle.query_core.specs.Firsts.{projected, firsts};
+ghost use Rattle.query_core.specs.Meaning.{selected, given_rows};
 
 use crate::select::{first_rows, select_rows};
 use std::alloc::Global;

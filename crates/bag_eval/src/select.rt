@@ -3,7 +3,8 @@ ghost use Rattle.std.specs.List.{list_any};
 ghost use Rattle.value_core.specs.Value.{same};
 ghost use Rattle.predicate_core.specs.Truth.{value_at};
 ghost use Rattle.table_core.specs.Bag.{same_cells, has_double};
-ghost use Rattle.query_core.specs.Meaning.{projected, selected, firsts};
+ghost use Rattle.query_core.specs.Firsts.{projected, firsts};
+ghost use Rattle.query_core.specs.Meaning.{selected};
 
 use sqlite_items::Items;
 use std::alloc::Global;

@@ -1,121 +1,243 @@
-ghost use Rattle.std.specs.Prelude.{◌≡◌, ◌++◌, ◌∷◌, [], IfOk, OnOk, map, flat_map};
+ghost use Rattle.std.specs.Prelude.{◌≡◌, ◌∷◌, ◌++◌, [], IfOk, option_map, length};
+ghost use Rattle.query_core.specs.Groups.{grouped};
+ghost use Rattle.query_core.specs.Meaning.{group_types, type_at, agg_type};
 ghost use Rattle.query_core.specs.View.{tree};
-ghost use Rattle.query_core.specs.Grammar.{with_flags};
-ghost use Rattle.query_core.specs.Answers.{is_answer, ranked};
-ghost use Rattle.rank_core.specs.View.{ranked_query};
-ghost use Rattle.plain_search.specs.Kept.{kept, IsBody};
+ghost use Rattle.plain_search.specs.Filled.{base_filled, filter_filled, pair_filled, paired, paired_rows, group_filled, union_filled, united, united_rows};
+ghost use Rattle.plain_search.specs.View.{filled};
 
-use bag_eval::{gives_rows, has_double_selected};
-use query_core::{Node, Query};
-use rank_core::{Ranked, key};
-use sqlite_items::Items;
+use crate::columns::{input_rows, input_types, type_at};
+use crate::kinds::{Pairing, Uniting};
+use bag_eval::{append_rows, group_tuples, join_pairs, keep_rows, left_join_pairs, union_firsts};
+use hole_choices::Choice;
+use predicate_core::Pred;
+use query_core::{Agg, Node};
+use sqlite_items::{Boxed, Items};
 use std::alloc::Global;
 use table_core::{TaskParts, Tuple};
-use value_core::OutOfMemory;
+use value_core::{ColType, OutOfMemory};
 
-/// A body whose predicates are all filled, with its skeleton's number, its predicates' numbers and its rows.
+/// A tree whose predicates are all filled, with its columns' types, its predicates' numbers and its rows.
 #[derive(Debug, Drop)]
 pub struct Body {
-    pub skeleton: u32,
     pub node: Node,
-    pub numbers: Items<usize>,
+    pub types: Items<ColType>,
+    pub numbers: Items<u64>,
     pub rows: Items<Tuple>,
 }
 
-// Whether the query of this body, map and flag is an answer.
-fn is_answer(
-    alloc: Global,
-    task: &TaskParts,
-    body: &Body,
-    picks: &[usize],
-    distinct: bool,
-) -> Result<bool, OutOfMemory>
-    requires { IsBody task.now (tree body.now.node) body.now.numbers body.now.rows }
-    ensures { IfOk result (λ b. b ≡ is_answer task.now (record { skeleton = body.now.skeleton; query = record { body = tree body.now.node; picks = picks.now; distinct = distinct } })) }
+// A copy of a node in a box.
+fn boxed(alloc: Global, node: &Node) -> Result<Boxed<Node>, OutOfMemory>
+    ensures { IfOk result (λ b. b ≡ node.now) }
 {
-    if picks.len() != task.output.columns().len() {
-        return Ok(false);
-    }
-    if distinct && !has_double_selected(picks, body.rows.as_slice()) {
-        return Ok(false);
-    }
-    gives_rows(
-        alloc,
-        picks,
-        distinct,
-        body.rows.as_slice(),
-        task.output.tuples(),
-    )
-}
-
-// The answer of this body, map and flag, with its key.
-fn ranked(
-    alloc: Global,
-    task: &TaskParts,
-    body: &Body,
-    picks: &[usize],
-    distinct: bool,
-) -> Result<Ranked, OutOfMemory>
-    requires { IsBody task.now (tree body.now.node) body.now.numbers body.now.rows }
-    ensures { IfOk result (λ r. ranked_query r ≡ ranked task.now (record { skeleton = body.now.skeleton; query = record { body = tree body.now.node; picks = picks.now; distinct = distinct } })) }
-{
-    let query = Query {
-        body: body.node.copy(alloc)?,
-        map: Items::from_slice(alloc, picks).map_err(|_| OutOfMemory)?,
-        distinct,
-    };
-    let key = key(alloc, task, body.skeleton, &query, body.numbers.as_slice())?;
-    Ok(Ranked { key, query })
-}
-
-// Appends the query of this body, map and flag, if it is an answer.
-fn push_answer(
-    alloc: Global,
-    task: &TaskParts,
-    body: &Body,
-    picks: &[usize],
-    distinct: bool,
-    out: &mut Vec<Ranked>,
-) -> Result<(), OutOfMemory>
-    requires { IsBody task.now (tree body.now.node) body.now.numbers body.now.rows }
-    ensures { OnOk result (map ranked_query out.new.items ≡ map ranked_query out.old.items ++ kept task.now body.now.skeleton (record { body = tree body.now.node; picks = picks.now; distinct = distinct } ∷ [])) }
-{
-    if is_answer(alloc, task, body, picks, distinct)? {
-        out.push(ranked(alloc, task, body, picks, distinct)?)
-            .map_err(|_| OutOfMemory)
-    } else {
-        Ok(())
+    match Boxed::new(alloc, node.copy(alloc)?) {
+        Ok(node) => Ok(node),
+        Err(_) => Err(OutOfMemory),
     }
 }
 
-// Appends the answers of this body and map, with and without removal of duplicates.
-fn push_flags(
-    alloc: Global,
-    task: &TaskParts,
-    body: &Body,
-    picks: &[usize],
-    out: &mut Vec<Ranked>,
-) -> Result<(), OutOfMemory>
-    requires { IsBody task.now (tree body.now.node) body.now.numbers body.now.rows }
-    ensures { OnOk result (map ranked_query out.new.items ≡ map ranked_query out.old.items ++ kept task.now body.now.skeleton (with_flags (tree body.now.node) picks.now)) }
+// The elements of two slices.
+fn both<T: Copy + Drop>(alloc: Global, a: &[T], b: &[T]) -> Result<Items<T>, OutOfMemory>
+    ensures { IfOk result (λ out. out ≡ a.now ++ b.now) }
 {
-    push_answer(alloc, task, body, picks, false, out)?;
-    push_answer(alloc, task, body, picks, true, out)
+    let mut out = Items::from_slice(alloc, a).map_err(|_| OutOfMemory)?;
+    let more = Items::from_slice(alloc, b).map_err(|_| OutOfMemory)?;
+    match out.append(more) {
+        Ok(()) => Ok(out),
+        Err(_) => Err(OutOfMemory),
+    }
 }
 
-/// Appends the answers of this body.
-pub fn push_body(
-    alloc: Global,
-    task: &TaskParts,
-    body: &Body,
-    maps: &[Items<usize>],
-    out: &mut Vec<Ranked>,
-) -> Result<(), OutOfMemory>
-    requires { IsBody task.now (tree body.now.node) body.now.numbers body.now.rows }
-    ensures { OnOk result (map ranked_query out.new.items ≡ map ranked_query out.old.items ++ kept task.now body.now.skeleton (flat_map (with_flags (tree body.now.node)) maps.now)) }
+// A copy of these numbers.
+fn copied<T: Copy>(alloc: Global, items: &[T]) -> Result<Items<T>, OutOfMemory>
+    ensures { IfOk result (λ out. out ≡ items.now) }
 {
-    for picks in maps {
-        push_flags(alloc, task, body, picks.as_slice(), out)?;
+    match Items::from_slice(alloc, items) {
+        Ok(out) => Ok(out),
+        Err(_) => Err(OutOfMemory),
     }
-    Ok(())
+}
+
+// A join or a left join of copies of two nodes.
+fn paired(
+    alloc: Global,
+    kind: Pairing,
+    a: &Node,
+    b: &Node,
+    pred: Pred,
+) -> Result<Node, OutOfMemory>
+    ensures { IfOk result (λ n. tree n ≡ paired kind (tree a.now) (tree b.now) pred) }
+{
+    let a = boxed(alloc, a)?;
+    let b = boxed(alloc, b)?;
+    match kind {
+        Pairing::Join => Ok(Node::Join(a, b, pred)),
+        Pairing::Left => Ok(Node::Left(a, b, pred)),
+    }
+}
+
+// The rows of a join or a left join, whose right part has so many columns.
+fn paired_rows(
+    alloc: Global,
+    kind: Pairing,
+    task: &TaskParts,
+    pred: &Pred,
+    width: usize,
+    lefts: &[Tuple],
+    rights: &[Tuple],
+) -> Result<Items<Tuple>, OutOfMemory>
+    ensures { IfOk result (λ rows. rows ≡ paired_rows kind task.now pred.now width lefts.now rights.now) }
+{
+    let constants = task.constants.as_slice();
+    match kind {
+        Pairing::Join => join_pairs(alloc, constants, lefts, rights, pred),
+        Pairing::Left => left_join_pairs(alloc, constants, width, lefts, rights, pred),
+    }
+}
+
+// A union of copies of two nodes.
+fn united(alloc: Global, kind: Uniting, a: &Node, b: &Node) -> Result<Node, OutOfMemory>
+    ensures { IfOk result (λ n. tree n ≡ united kind (tree a.now) (tree b.now)) }
+{
+    let a = boxed(alloc, a)?;
+    let b = boxed(alloc, b)?;
+    match kind {
+        Uniting::All => Ok(Node::UnionAll(a, b)),
+        Uniting::Firsts => Ok(Node::Union(a, b)),
+    }
+}
+
+// The rows of a union.
+fn united_rows(
+    alloc: Global,
+    kind: Uniting,
+    xs: &[Tuple],
+    ys: &[Tuple],
+) -> Result<Items<Tuple>, OutOfMemory>
+    ensures { IfOk result (λ rows. rows ≡ united_rows kind xs.now ys.now) }
+{
+    match kind {
+        Uniting::All => append_rows(alloc, xs, ys),
+        Uniting::Firsts => union_firsts(alloc, xs, ys),
+    }
+}
+
+// The type of what an aggregate gives over columns of these types.
+fn agg_type(types: &[ColType], agg: &Agg) -> ColType
+    ensures { result ≡ agg_type types.now agg.now }
+{
+    match agg {
+        Agg::Min(column) | Agg::Max(column) => type_at(types, *column),
+        _ => ColType::Int,
+    }
+}
+
+// The types of a group's columns.
+fn group_types(
+    alloc: Global,
+    types: &[ColType],
+    keys: &[usize],
+    agg: &Agg,
+) -> Result<Items<ColType>, OutOfMemory>
+    ensures { IfOk result (λ out. out ≡ group_types types.now keys.now agg.now) }
+{
+    let mut out = Items::new(alloc);
+    for key in keys {
+        out.push(type_at(types, *key)).map_err(|_| OutOfMemory)?;
+    }
+    out.push(agg_type(types, agg)).map_err(|_| OutOfMemory)?;
+    Ok(out)
+}
+
+impl Body {
+    /// An input.
+    pub fn base(alloc: Global, task: &TaskParts, table: u32) -> Result<Body, OutOfMemory>
+        ensures { IfOk result (λ b. filled b ≡ base_filled task.now table) }
+    {
+        Ok(Body {
+            node: Node::Base(table),
+            types: input_types(alloc, task, table as usize)?,
+            numbers: Items::new(alloc),
+            rows: input_rows(alloc, task, table as usize)?,
+        })
+    }
+
+    /// A filter by a choice over this body.
+    pub fn filter(
+        &self,
+        alloc: Global,
+        task: &TaskParts,
+        choice: &Choice,
+    ) -> Result<Body, OutOfMemory>
+        ensures { IfOk result (λ b. filled b ≡ filter_filled task.now (filled self.now) choice.now) }
+    {
+        let constants = task.constants.as_slice();
+        Ok(Body {
+            node: Node::Filter(boxed(alloc, &self.node)?, choice.pred),
+            types: copied(alloc, self.types.as_slice())?,
+            numbers: both(alloc, self.numbers.as_slice(), &[choice.number])?,
+            rows: keep_rows(alloc, constants, self.rows.as_slice(), &choice.pred)?,
+        })
+    }
+
+    /// A join or a left join of this body and another by a choice.
+    pub fn pair(
+        &self,
+        alloc: Global,
+        task: &TaskParts,
+        kind: Pairing,
+        other: &Body,
+        choice: &Choice,
+    ) -> Result<Body, OutOfMemory>
+        ensures { IfOk result (λ b. filled b ≡ pair_filled task.now kind (filled self.now) (filled other.now) choice.now) }
+    {
+        let parts = both(alloc, self.numbers.as_slice(), other.numbers.as_slice())?;
+        Ok(Body {
+            node: paired(alloc, kind, &self.node, &other.node, choice.pred)?,
+            types: both(alloc, self.types.as_slice(), other.types.as_slice())?,
+            numbers: both(alloc, parts.as_slice(), &[choice.number])?,
+            rows: paired_rows(
+                alloc,
+                kind,
+                task,
+                &choice.pred,
+                other.types.len(),
+                self.rows.as_slice(),
+                other.rows.as_slice(),
+            )?,
+        })
+    }
+
+    /// The group over this body, where its sum has a value.
+    pub fn group(
+        &self,
+        alloc: Global,
+        keys: &[usize],
+        agg: &Agg,
+    ) -> Result<Option<Body>, OutOfMemory>
+        ensures { IfOk result (λ o. option_map filled o ≡ option_map (group_filled keys.now agg.now (filled self.now)) (grouped keys.now agg.now self.now.rows)) }
+    {
+        let Some(rows) = group_tuples(alloc, keys, agg, self.rows.as_slice())? else {
+            return Ok(None);
+        };
+        let child = boxed(alloc, &self.node)?;
+        let keys_copied = copied(alloc, keys)?;
+        Ok(Some(Body {
+            node: Node::Group(child, keys_copied, *agg),
+            types: group_types(alloc, self.types.as_slice(), keys, agg)?,
+            numbers: copied(alloc, self.numbers.as_slice())?,
+            rows,
+        }))
+    }
+
+    /// The union of this body and another.
+    pub fn union(&self, alloc: Global, kind: Uniting, other: &Body) -> Result<Body, OutOfMemory>
+        ensures { IfOk result (λ b. filled b ≡ union_filled kind (filled self.now) (filled other.now)) }
+    {
+        Ok(Body {
+            node: united(alloc, kind, &self.node, &other.node)?,
+            types: copied(alloc, self.types.as_slice())?,
+            numbers: both(alloc, self.numbers.as_slice(), other.numbers.as_slice())?,
+            rows: united_rows(alloc, kind, self.rows.as_slice(), other.rows.as_slice())?,
+        })
+    }
 }

@@ -1,6 +1,6 @@
 ghost use Rattle.std.specs.Prelude.{◌≡◌, ◌++◌, IfOk, OnOk, map};
 ghost use Rattle.table_core.specs.Rows.{types_of};
-ghost use Rattle.query_core.specs.Meaning.{input_at};
+ghost use Rattle.query_core.specs.Meaning.{input_at, type_at};
 
 use sqlite_items::Items;
 use std::alloc::Global;
@@ -62,4 +62,14 @@ pub fn input_rows(
         push_rows(alloc, &mut rows, table.tuples())?;
     }
     Ok(rows)
+}
+
+/// The type of a column, text where there is none.
+pub fn type_at(types: &[ColType], at: usize) -> ColType
+    ensures { result ≡ type_at types.now at }
+{
+    match types.get(at) {
+        Some(kind) => *kind,
+        None => ColType::Text,
+    }
 }

@@ -3,11 +3,8 @@
 
 mod body;
 mod columns;
-mod filters;
+mod kinds;
 mod listing;
-mod search;
 
-pub use search::plain;
-
-#[cfg(test)]
-mod tests;
+pub use body::Body;
+pub use kinds::{Pairing, Uniting};

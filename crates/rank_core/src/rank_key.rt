@@ -1,5 +1,6 @@
-ghost use Rattle.std.specs.Prelude.{◌≡◌, ◌<◌, ◌+◌, ◌^◌, IfOk};
-ghost use Rattle.query_core.specs.Rank.{Key, key, key_order, before, distinct_cost, tree_cost, pred_numbers};
+ghost use Rattle.std.specs.Prelude.{◌≡◌, ◌+◌, IfOk, IfSome};
+ghost use Rattle.query_core.specs.Rank.{Key, key, key_order, before, distinct_cost, tree_cost};
+ghost use Rattle.rank_core.specs.View.{with_numbers};
 ghost use Rattle.query_core.specs.View.{tree, select};
 
 use crate::body::{tree_cost, unused_constants};
@@ -37,7 +38,16 @@ fn distinct_cost(distinct: bool) -> u64
     if distinct { 1 } else { 0 }
 }
 
-/// The key of a query, given its skeleton's number and the numbers of its predicates.
+// The cost of a query, nothing where it leaves 64 bits.
+fn query_cost(query: &Query) -> Option<u64>
+    ensures { IfSome result (λ n. n ≡ tree_cost (tree query.now.body) + distinct_cost query.now.distinct) }
+{
+    tree_cost(&query.body)?.checked_add(distinct_cost(query.distinct))
+}
+
+/// The key of a query, with the number of its skeleton and the numbers of its predicates as they are handed in.
+///
+/// A query whose cost leaves 64 bits has more nodes than memory can hold, so it is answered as want of memory.
 pub fn key(
     alloc: Global,
     task: &TaskParts,
@@ -45,12 +55,12 @@ pub fn key(
     query: &Query,
     numbers: &[u64],
 ) -> Result<RankKey, OutOfMemory>
-    requires numbered { numbers.now ≡ pred_numbers task.now (tree query.now.body) }
-    requires small { tree_cost (tree query.now.body) < 2 ^ 32 }
-    ensures { IfOk result (λ k. k ≡ key task.now skeleton (select query.now)) }
+    ensures { IfOk result (λ k. k ≡ with_numbers numbers.now (key task.now skeleton (select query.now))) }
 {
+    let Some(cost) = query_cost(query) else {
+        return Err(OutOfMemory);
+    };
     let unused = unused_constants(task, &query.body);
-    let cost = tree_cost(&query.body) + distinct_cost(query.distinct);
     let numbers = Items::from_slice(alloc, numbers).map_err(|_| OutOfMemory)?;
     let picks = Items::from_slice(alloc, query.map.as_slice()).map_err(|_| OutOfMemory)?;
     Ok(RankKey {
