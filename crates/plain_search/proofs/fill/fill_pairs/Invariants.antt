@@ -1,5 +1,4 @@
 use Rattle.std.proofs.Common.{◌≡◌, ◌++◌, map, drop}
-use Rattle.std.specs.List.{flat_map}
 use Rattle.plain_search.specs.Filled.{of_each_filled, pairs_on}
 use Rattle.plain_search.specs.View.{filled}
 use Rattle.plain_search.proofs.fill.fill_pairs.Given as goal
