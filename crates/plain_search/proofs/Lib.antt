@@ -1,0 +1,2 @@
+pub mod FilledLaws
+pub mod MapLaws
