@@ -1,6 +1,13 @@
 //! The skeletons of a task, level by level.
 #![tactic(auto)]
 
+mod fault;
+mod keys;
 mod list;
+mod pairing;
+mod skeleton;
 
+pub use fault::ListFault;
 pub use list::skeletons;
+pub use pairing::Pairing;
+pub use skeleton::Skeleton;

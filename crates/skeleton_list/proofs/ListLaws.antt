@@ -1,0 +1,48 @@
+-- Laws of functions that list skeletons.
+use Rattle.std.proofs.Common.{◌≡◌, ℕ, ◌+◌, ◌-◌, ◌<◌, List, [], ◌∷◌, ◌++◌, length, Result, Ok, Err, refl, ap, sym, ◌∙◌, arith, map, drop, get_or, length-append, append_assoc}
+use Rattle.std.specs.List.{flat_map, range_with_len}
+use Rattle.std.proofs.lemmas.List.{drop_more}
+use Rattle.skeleton_list.proofs.RangeLaws.{range_next}
+use Rattle.skeleton_list.specs.Listed.{Listed, Lists}
+use Rattle.skeleton_list.specs.declared.fault.ListFault.{ListFault}
+use Rattle.skeleton_list.specs.declared.fault.ListFault.TheVariants.{TooMany, OutOfMemory}
+
+-- where there is no room for the first part of a list, there is none for the list
+pub stops : (room : ℕ) (base whole out new part rest : List Listed) (fault : ListFault)
+    → out ++ (part ++ rest) ≡ base ++ whole → Lists room out new part (Err fault) → Lists room base new whole (Err fault)
+stops room base whole out new part rest TooMany same lists =
+    let sizes : length (out ++ (part ++ rest)) ≡ length (base ++ whole) = ap length same in
+    let left : length (out ++ (part ++ rest)) ≡ length out + (length part + length rest) = length-append out (part ++ rest) ∙ ap (λ n. length out + n) (length-append part rest) in
+    let right : length (base ++ whole) ≡ length base + length whole = length-append base whole in
+    omega (arith, sizes, left, right, lists)
+stops room base whole out new part rest OutOfMemory same lists = tt
+
+-- what a loop has still to list: what its turn lists, and then the rest
+pub loop_part : {A : Type 0} (f : Listed → List Listed) (view : A → Listed) (out whole : List Listed) (xs : List A) (i : ℕ) (x d : A) → i < length xs → x ≡ get_or xs i d
+    → out ++ flat_map f (map view (drop i xs)) ≡ whole → out ++ (f (view x) ++ flat_map f (map view (drop (i + 1) xs))) ≡ whole
+loop_part f view out whole xs i x d below is inv =
+    let next : drop i xs ≡ x ∷ drop (i + 1) xs = drop_more xs i d below ∙ ap (λ y. y ∷ drop (i + 1) xs) (sym is) in
+    rw next at inv
+
+-- the same for a list of other things
+pub plain_loop_part : {A : Type 0} (f : A → List Listed) (out whole : List Listed) (xs : List A) (i : ℕ) (x d : A) → i < length xs → x ≡ get_or xs i d
+    → out ++ flat_map f (drop i xs) ≡ whole → out ++ (f x ++ flat_map f (drop (i + 1) xs)) ≡ whole
+plain_loop_part f out whole xs i x d below is inv =
+    let next : drop i xs ≡ x ∷ drop (i + 1) xs = drop_more xs i d below ∙ ap (λ y. y ∷ drop (i + 1) xs) (sym is) in
+    rw next at inv
+
+-- the same where each thing lists one
+pub map_loop_part : {A : Type 0} (f : A → Listed) (out whole : List Listed) (xs : List A) (i : ℕ) (x d : A) → i < length xs → x ≡ get_or xs i d
+    → out ++ map f (drop i xs) ≡ whole → out ++ ((f x ∷ []) ++ map f (drop (i + 1) xs)) ≡ whole
+map_loop_part f out whole xs i x d below is inv =
+    let next : drop i xs ≡ x ∷ drop (i + 1) xs = drop_more xs i d below ∙ ap (λ y. y ∷ drop (i + 1) xs) (sym is) in
+    rw next at inv
+
+-- the same for a range
+pub range_loop_part : (f : ℕ → List Listed) (out whole : List Listed) (i n : ℕ) → i < n
+    → out ++ flat_map f (range_with_len i (n - i)) ≡ whole → out ++ (f i ++ flat_map f (range_with_len (i + 1) (n - (i + 1)))) ≡ whole
+range_loop_part f out whole i n below is = rw (range_next i n below) at is
+
+pub range_loop_more : (f : ℕ → List Listed) (out more whole : List Listed) (i n : ℕ) → i < n → more ≡ out ++ f i
+    → out ++ flat_map f (range_with_len i (n - i)) ≡ whole → more ++ flat_map f (range_with_len (i + 1) (n - (i + 1))) ≡ whole
+range_loop_more f out more whole i n below next is = rw (next, append_assoc) (range_loop_part f out whole i n below is)

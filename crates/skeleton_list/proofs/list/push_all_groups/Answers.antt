@@ -1,0 +1,16 @@
+use Rattle.std.proofs.Common.{◌+◌, ◌∷◌, [], map, drop, arith, ◌∙◌}
+use Rattle.std.specs.List.{flat_map}
+use Rattle.std.proofs.lemmas.Result.{err_from_is_err_and}
+use Rattle.skeleton_list.specs.Listed.{filter_on, pair_on, pairs_between, group_on, keyed_on, groups_on}
+use Rattle.skeleton_list.specs.View.{plain, plains}
+use Rattle.skeleton_list.proofs.ListLaws.{stops, loop_part, plain_loop_part, map_loop_part}
+use Rattle.skeleton_list.proofs.list.push_all_groups.Goals as goal
+
+pub returns-in_err-push_groups : goal.returns-in_err-push_groups
+returns-in_err-push_groups c =
+    let p = err_from_is_err_and c.from_residual.result c.from_residual.ensures.1 in
+    let out = plains c.loop-child.out.items in
+    let whole = flat_map (groups_on c.args.task.now) (plains c.args.last.now) in
+    let rest = flat_map (groups_on c.args.task.now) (plains (drop (c.loop-child.child-index + 1) c.args.last.now)) in
+    let same = loop_part (groups_on c.args.task.now) plain out _ c.args.last.now c.loop-child.child-index c.child-item.result c.child-item.result (omega arith) c.child-item.is c.loop-child.invariant in
+    rw (p.1, p.2) (stops c.args.room (plains c.args.out.now.items) whole out (plains c.push_groups.new.out.items) ((groups_on c.args.task.now) (plain c.child-item.result)) rest c.in_err-push_groups.field-0.0 same c.in_err-push_groups.ensures)

@@ -1,0 +1,16 @@
+use Rattle.std.proofs.Common.{◌+◌, ◌∷◌, [], map, drop, arith, ◌∙◌}
+use Rattle.std.specs.List.{flat_map}
+use Rattle.std.proofs.lemmas.Result.{err_from_is_err_and}
+use Rattle.skeleton_list.specs.Listed.{filter_on, pair_on, pairs_between, group_on, keyed_on, groups_on}
+use Rattle.skeleton_list.specs.View.{plain, plains}
+use Rattle.skeleton_list.proofs.ListLaws.{stops, loop_part, plain_loop_part, map_loop_part}
+use Rattle.skeleton_list.proofs.list.push_keyed_by.Goals as goal
+
+pub returns-in_err-push_keyed : goal.returns-in_err-push_keyed
+returns-in_err-push_keyed c =
+    let p = err_from_is_err_and c.from_residual.result c.from_residual.ensures.1 in
+    let out = plains c.loop-keys.out.items in
+    let whole = flat_map (keyed_on c.args.task.now (plain c.args.child.now)) c.args.lists.now in
+    let rest = flat_map (keyed_on c.args.task.now (plain c.args.child.now)) (drop (c.loop-keys.keys-index + 1) c.args.lists.now) in
+    let same = plain_loop_part (keyed_on c.args.task.now (plain c.args.child.now)) out _ c.args.lists.now c.loop-keys.keys-index c.as_slice.result.now c.keys-item.result (omega arith) (c.as_slice.ensures ∙ c.keys-item.is) c.loop-keys.invariant in
+    rw (p.1, p.2) (stops c.args.room (plains c.args.out.now.items) whole out (plains c.push_keyed.new.out.items) ((keyed_on c.args.task.now (plain c.args.child.now)) c.as_slice.result.now) rest c.in_err-push_keyed.field-0.0 same c.in_err-push_keyed.ensures)

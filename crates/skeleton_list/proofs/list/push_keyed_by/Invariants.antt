@@ -1,0 +1,8 @@
+use Rattle.std.proofs.Common.{◌≡◌, ◌++◌, map, drop}
+use Rattle.std.specs.List.{flat_map}
+use Rattle.skeleton_list.specs.Listed.{filter_on, pair_on, pairs_between, group_on, keyed_on, groups_on}
+use Rattle.skeleton_list.specs.View.{plain, plains}
+use Rattle.skeleton_list.proofs.list.push_keyed_by.Given as goal
+
+abbrev pub invariant-loop-keys : goal.invariant-loop-keys
+invariant-loop-keys l = plains l.out.items ++ flat_map (keyed_on l.task (plain l.child)) (drop l.keys-index l.lists) ≡ plains l.initial.out.items ++ flat_map (keyed_on l.task (plain l.child)) l.lists

@@ -1,0 +1,8 @@
+use Rattle.std.proofs.Common.{◌≡◌, ◌++◌, map, drop}
+use Rattle.std.specs.List.{flat_map}
+use Rattle.skeleton_list.specs.Listed.{filter_on, pair_on, pairs_between, group_on, keyed_on, groups_on}
+use Rattle.skeleton_list.specs.View.{plain, plains}
+use Rattle.skeleton_list.proofs.list.push_pairs_between.Given as goal
+
+abbrev pub invariant-loop-a : goal.invariant-loop-a
+invariant-loop-a l = plains l.out.items ++ pairs_between l.task l.kind (plains (drop l.a-index l.lefts)) (plains l.rights) ≡ plains l.initial.out.items ++ pairs_between l.task l.kind (plains l.lefts) (plains l.rights)

@@ -1,0 +1,8 @@
+use Rattle.std.proofs.Common.{◌≡◌, ◌++◌, map, drop}
+use Rattle.std.specs.List.{flat_map}
+use Rattle.skeleton_list.specs.Listed.{filter_on, pair_on, pairs_between, group_on, keyed_on, groups_on}
+use Rattle.skeleton_list.specs.View.{plain, plains}
+use Rattle.skeleton_list.proofs.list.push_pairs_with.Given as goal
+
+abbrev pub invariant-loop-b : goal.invariant-loop-b
+invariant-loop-b l = plains l.out.items ++ flat_map (pair_on l.task l.kind (plain l.a)) (plains (drop l.b-index l.rights)) ≡ plains l.initial.out.items ++ flat_map (pair_on l.task l.kind (plain l.a)) (plains l.rights)
