@@ -1,6 +1,6 @@
 use Rattle.std.proofs.Common.{◌≡◌, drop}
 use Rattle.table_core.specs.Bag.{same_cells}
-use Rattle.query_core.specs.Meaning.{projected}
+use Rattle.query_core.specs.Firsts.{projected}
 use Rattle.bag_eval.proofs.select.same_selected.Given as goal
 
 abbrev pub invariant-loop-at : goal.invariant-loop-at

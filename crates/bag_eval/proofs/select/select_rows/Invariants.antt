@@ -1,5 +1,5 @@
 use Rattle.std.proofs.Common.{◌≡◌, map, take}
-use Rattle.query_core.specs.Meaning.{projected}
+use Rattle.query_core.specs.Firsts.{projected}
 use Rattle.bag_eval.proofs.select.select_rows.Given as goal
 
 abbrev pub invariant-loop-row : goal.invariant-loop-row
