@@ -54,3 +54,12 @@ firsts_push (x ∷ xs) y =
       | inl same ↦ rw (firsts_push xs y, same) (ap (λ t. x ∷ t) (last_of x y _ (firsts xs) same))
       | inr apart ↦ rw (firsts_push xs y, apart, any_others x y (firsts xs) apart) (ap (λ t. x ∷ t) (last_other x y _ (firsts xs) apart))
     ]
+
+-- a row is among the first copies exactly where it is among the rows
+pub any_firsts : (y : Row) (rows : List Row) → list_any (λ r. same_cells r y) (firsts rows) ≡ list_any (λ r. same_cells r y) rows
+any_firsts y [] = refl
+any_firsts y (x ∷ rows) =
+    elim (cases_Bool (same_cells x y)) [
+      | inl same ↦ rw (same) refl
+      | inr apart ↦ rw (apart, any_others x y (firsts rows) apart) (any_firsts y rows)
+    ]

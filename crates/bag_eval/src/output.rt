@@ -1,40 +1,13 @@
 ghost use Rattle.std.specs.Prelude.{◌≡◌, ◌==◌, ◌&&◌, IfOk, length, if◌then◌else◌};
 ghost use Rattle.std.specs.List.{list_all};
-ghost use Rattle.table_core.specs.Bag.{same_cells, count, same_rows};
-ghost use Rattle.value_core.specs.Value.{same};
-ghost use Rattle.predicate_core.specs.Truth.{value_at};
-ghost use Rattle.query_core.specs.Firsts.{projected, firsts};
+ghost use Rattle.table_core.specs.Bag.{count, same_rows};
 ghost use Rattle.query_core.specs.Meaning.{selected, given_rows};
+ghost use Rattle.query_core.specs.Firsts.{firsts};
 
-use crate::select::{first_rows, select_rows};
+use crate::select::{first_rows, select_rows, selects_row};
 use std::alloc::Global;
 use table_core::{Tuple, count_in, same_rows};
-use value_core::{OutOfMemory, Value, same};
-
-// Whether the value at a place, NULL where there is none, is the same as another.
-fn same_value_at(row: &[Value], at: usize, other: &Value) -> bool
-    ensures { result ≡ same (value_at row.now at) other.now }
-{
-    match row.get(at) {
-        Some(value) => same(value, other),
-        None => same(&Value::Null, other),
-    }
-}
-
-// Whether a row, projected to these columns, is the same as another row.
-fn selects_row(picks: &[usize], row: &[Value], other: &[Value]) -> bool
-    ensures { result ≡ same_cells (projected picks.now row.now) other.now }
-{
-    if picks.len() != other.len() {
-        return false;
-    }
-    for i in 0..picks.len() {
-        if !same_value_at(row, picks[i], &other[i]) {
-            return false;
-        }
-    }
-    true
-}
+use value_core::{OutOfMemory, Value};
 
 // The number of these rows that, projected, are the same as another row.
 fn count_selected(picks: &[usize], rows: &[Tuple], other: &[Value]) -> usize

@@ -3,8 +3,8 @@ ghost use Rattle.std.specs.List.{list_any};
 ghost use Rattle.value_core.specs.Value.{same};
 ghost use Rattle.predicate_core.specs.Truth.{value_at};
 ghost use Rattle.table_core.specs.Bag.{same_cells, has_double};
-ghost use Rattle.query_core.specs.Firsts.{projected, firsts};
 ghost use Rattle.query_core.specs.Meaning.{selected};
+ghost use Rattle.query_core.specs.Firsts.{projected, firsts};
 
 use sqlite_items::Items;
 use std::alloc::Global;
@@ -12,7 +12,7 @@ use table_core::{Tuple, same_cells};
 use value_core::{OutOfMemory, Value, same};
 
 // A copy of the value at a place, NULL where there is none.
-fn copy_at(alloc: Global, row: &[Value], at: usize) -> Result<Value, OutOfMemory>
+pub(crate) fn copy_at(alloc: Global, row: &[Value], at: usize) -> Result<Value, OutOfMemory>
     ensures { IfOk result (λ v. v ≡ value_at row.now at) }
 {
     match row.get(at) {
@@ -22,7 +22,11 @@ fn copy_at(alloc: Global, row: &[Value], at: usize) -> Result<Value, OutOfMemory
 }
 
 // The row of these columns of a row.
-fn select_row(alloc: Global, picks: &[usize], row: &[Value]) -> Result<Tuple, OutOfMemory>
+pub(crate) fn select_row(
+    alloc: Global,
+    picks: &[usize],
+    row: &[Value],
+) -> Result<Tuple, OutOfMemory>
     ensures { IfOk result (λ t. t ≡ projected picks.now row.now) }
 {
     let mut cells = Vec::new(alloc);
@@ -73,6 +77,31 @@ fn same_selected(picks: &[usize], a: &[Value], b: &[Value]) -> bool
     true
 }
 
+// Whether the value at a place, NULL where there is none, is the same as another.
+fn same_value_at(row: &[Value], at: usize, other: &Value) -> bool
+    ensures { result ≡ same (value_at row.now at) other.now }
+{
+    match row.get(at) {
+        Some(value) => same(value, other),
+        None => same(&Value::Null, other),
+    }
+}
+
+// Whether a row, projected to these columns, is the same as another row.
+pub(crate) fn selects_row(picks: &[usize], row: &[Value], other: &[Value]) -> bool
+    ensures { result ≡ same_cells (projected picks.now row.now) other.now }
+{
+    if picks.len() != other.len() {
+        return false;
+    }
+    for i in 0..picks.len() {
+        if !same_value_at(row, picks[i], &other[i]) {
+            return false;
+        }
+    }
+    true
+}
+
 // Whether some of these rows is the same as a row at these columns.
 fn has_selected(picks: &[usize], rows: &[Tuple], row: &[Value]) -> bool
     ensures { result ≡ list_any (λ r. same_cells r (projected picks.now row.now)) (selected picks.now rows.now) }
@@ -98,14 +127,18 @@ pub fn has_double_selected(picks: &[usize], rows: &[Tuple]) -> bool
 }
 
 // Whether a row is among these rows.
-fn has_row(rows: &[Tuple], row: &[Value]) -> bool
+pub(crate) fn has_row(rows: &[Tuple], row: &[Value]) -> bool
     ensures { result ≡ list_any (λ r. same_cells r row.now) rows.now }
 {
     rows.iter().any(|r| same_cells(r.cells(), row))
 }
 
 // Appends a copy of a row, if it isn't among the rows so far.
-fn push_first(alloc: Global, out: &mut Items<Tuple>, row: &Tuple) -> Result<(), OutOfMemory>
+pub(crate) fn push_first(
+    alloc: Global,
+    out: &mut Items<Tuple>,
+    row: &Tuple,
+) -> Result<(), OutOfMemory>
     ensures { OnOk result (out.new ≡ out.old ++ (if list_any (λ r. same_cells r row.now) out.old then [] else row.now ∷ [])) }
 {
     if has_row(out.as_slice(), row.cells()) {
