@@ -25,7 +25,7 @@ use Rattle.plain_search.specs.declared.kinds.Pairing.TheVariants.{Join, Left}
 use Rattle.plain_search.specs.declared.kinds.Uniting.{Uniting}
 use Rattle.plain_search.specs.declared.kinds.Uniting.TheVariants.{All, Firsts}
 use Rattle.plain_search.specs.Filled.{Filled, filter_filled, filter_on, filters_on, drops_some, pair_filled, pairs_on, paired, paired_rows, groups_on, unions_on, united, united_rows, filled_up}
-use Rattle.plain_search.proofs.MapLaws.{single, flat_map_twice, flat_map_same, flat_map_none, flat_map_of_map, flat_map_filter, flat_map_singles, map_twice, of_each_filled_is}
+use Rattle.query_core.proofs.MapLaws.{single, flat_map_twice, flat_map_same, flat_map_none, flat_map_of_map, flat_map_filter, flat_map_singles, map_twice, of_each_filled_is}
 
 -- whether a tree is standard and has rows
 abbrev pub is_filled : TaskParts → Tree → Bool

@@ -1,2 +1,2 @@
 pub mod FilledLaws
-pub mod MapLaws
+pub mod RootLaws

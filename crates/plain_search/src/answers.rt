@@ -7,10 +7,9 @@ ghost use Rattle.plain_search.specs.Kept.{is_answer_on, ranked_on, kept_query, k
 ghost use Rattle.plain_search.specs.View.{filled};
 
 use crate::body::Body;
-use crate::columns::table_types;
 use crate::listing::maps;
 use bag_eval::{gives_rows, has_double_selected};
-use query_core::Query;
+use query_core::{Query, table_types};
 use rank_core::{Ranked, key};
 use sqlite_items::Items;
 use std::alloc::Global;

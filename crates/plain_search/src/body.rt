@@ -1,16 +1,15 @@
 ghost use Rattle.std.specs.Prelude.{◌≡◌, ◌∷◌, ◌++◌, [], IfOk, option_map, length};
 ghost use Rattle.query_core.specs.Groups.{grouped};
-ghost use Rattle.query_core.specs.Meaning.{group_types, type_at, agg_type};
 ghost use Rattle.query_core.specs.View.{tree};
 ghost use Rattle.plain_search.specs.Filled.{base_filled, filter_filled, pair_filled, paired, paired_rows, group_filled, union_filled, united, united_rows};
 ghost use Rattle.plain_search.specs.View.{filled};
 
-use crate::columns::{input_rows, input_types, type_at};
+use crate::columns::input_rows;
 use crate::kinds::{Pairing, Uniting};
 use bag_eval::{append_rows, group_tuples, join_pairs, keep_rows, left_join_pairs, union_firsts};
 use hole_choices::Choice;
 use predicate_core::Pred;
-use query_core::{Agg, Node};
+use query_core::{Agg, Node, group_types, input_types};
 use sqlite_items::{Boxed, Items};
 use std::alloc::Global;
 use table_core::{TaskParts, Tuple};
@@ -119,33 +118,6 @@ fn united_rows(
         Uniting::All => append_rows(alloc, xs, ys),
         Uniting::Firsts => union_firsts(alloc, xs, ys),
     }
-}
-
-// The type of what an aggregate gives over columns of these types.
-fn agg_type(types: &[ColType], agg: &Agg) -> ColType
-    ensures { result ≡ agg_type types.now agg.now }
-{
-    match agg {
-        Agg::Min(column) | Agg::Max(column) => type_at(types, *column),
-        _ => ColType::Int,
-    }
-}
-
-// The types of a group's columns.
-fn group_types(
-    alloc: Global,
-    types: &[ColType],
-    keys: &[usize],
-    agg: &Agg,
-) -> Result<Items<ColType>, OutOfMemory>
-    ensures { IfOk result (λ out. out ≡ group_types types.now keys.now agg.now) }
-{
-    let mut out = Items::new(alloc);
-    for key in keys {
-        out.push(type_at(types, *key)).map_err(|_| OutOfMemory)?;
-    }
-    out.push(agg_type(types, agg)).map_err(|_| OutOfMemory)?;
-    Ok(out)
 }
 
 impl Body {

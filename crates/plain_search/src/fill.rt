@@ -33,8 +33,8 @@ pub fn child_choices(
     )
 }
 
-// The types of the columns of two bodies, one after the other.
-fn pair_types(alloc: Global, a: &Body, b: &Body) -> Result<Items<ColType>, OutOfMemory>
+/// The types of the columns of two bodies, one after the other.
+pub fn pair_types(alloc: Global, a: &Body, b: &Body) -> Result<Items<ColType>, OutOfMemory>
     ensures { IfOk result (λ types. types ≡ a.now.types ++ b.now.types) }
 {
     let mut types = Items::from_slice(alloc, a.types.as_slice()).map_err(|_| OutOfMemory)?;

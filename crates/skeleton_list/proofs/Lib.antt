@@ -1,2 +1,3 @@
-pub mod RangeLaws
+pub mod LevelLaws
 pub mod ListLaws
+pub mod RangeLaws

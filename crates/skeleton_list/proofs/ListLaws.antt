@@ -3,7 +3,9 @@ use Rattle.std.proofs.Common.{◌≡◌, ℕ, ◌+◌, ◌-◌, ◌<◌, List, [
 use Rattle.std.specs.List.{flat_map, range_with_len}
 use Rattle.std.proofs.lemmas.List.{drop_more}
 use Rattle.skeleton_list.proofs.RangeLaws.{range_next}
-use Rattle.skeleton_list.specs.Listed.{Listed, Lists}
+use Rattle.table_core.specs.declared.task.TaskParts.{TaskParts}
+use Rattle.skeleton_list.specs.declared.pairing.Pairing.{Pairing}
+use Rattle.skeleton_list.specs.Listed.{Listed, Lists, listed_at, pairs_between, pairs_at}
 use Rattle.skeleton_list.specs.declared.fault.ListFault.{ListFault}
 use Rattle.skeleton_list.specs.declared.fault.ListFault.TheVariants.{TooMany, OutOfMemory}
 
@@ -46,3 +48,8 @@ range_loop_part f out whole i n below is = rw (range_next i n below) at is
 pub range_loop_more : (f : ℕ → List Listed) (out more whole : List Listed) (i n : ℕ) → i < n → more ≡ out ++ f i
     → out ++ flat_map f (range_with_len i (n - i)) ≡ whole → more ++ flat_map f (range_with_len (i + 1) (n - (i + 1))) ≡ whole
 range_loop_more f out more whole i n below next is = rw (next, append_assoc) (range_loop_part f out whole i n below is)
+
+-- the skeletons of a level's parts, by what they are
+pub pairs_at_is : (task : TaskParts) (kind : Pairing) (levels : List (List Listed)) (i n : ℕ) (lefts rights : List Listed) → n ≡ length levels → lefts ≡ listed_at levels i → rights ≡ listed_at levels (n - 1 - i)
+    → pairs_between task kind lefts rights ≡ pairs_at task kind levels i
+pairs_at_is task kind levels i n lefts rights size left right = rw (left, right, size) refl

@@ -27,6 +27,14 @@ pub record Listed : Type 0 where
 abbrev pub listed : TaskParts → Tree → Listed
 listed task tree = record { tree = tree; leaves = leaves tree; types = columns task tree }
 
+-- some levels of trees so
+abbrev pub listed_levels : TaskParts → List (List Tree) → List (List Listed)
+listed_levels task levels = map (map (listed task)) levels
+
+-- all elements of some levels
+abbrev pub all_of : {A : Type 0} → List (List A) → List A
+all_of levels = flat_map (λ level. level) levels
+
 -- a filter over a skeleton, where it takes one
 abbrev pub filter_on : Listed → List Listed
 filter_on c = if takes_filter c.tree then (record { tree = t.filter c.tree Always; leaves = c.leaves; types = c.types }) ∷ [] else []

@@ -3,11 +3,12 @@
 
 mod fault;
 mod keys;
+mod levels;
 mod list;
 mod pairing;
 mod skeleton;
 
 pub use fault::ListFault;
-pub use list::skeletons;
+pub use levels::skeletons;
 pub use pairing::Pairing;
 pub use skeleton::Skeleton;

@@ -1,7 +1,7 @@
-ghost use Rattle.std.specs.Prelude.{◌≡◌, ◌≤◌, ◌<◌, ◌∷◌, [], length, map, flat_map, Err, IfOk, MatchOption};
-ghost use Rattle.query_core.specs.View.{tree};
-ghost use Rattle.query_core.specs.Grammar.{skeletons};
-ghost use Rattle.skeleton_list.specs.Listed.{Lists, filter_on, pair_on, pairs_between, pairs_at, pairs_on, first_kinds, last_kinds, group_on, keyed_on, groups_on, last_listed, listed_at, next_listed};
+ghost use Rattle.std.specs.Prelude.{◌≡◌, ◌<◌, ◌∷◌, [], length, map, flat_map, ◌++◌, Err, IfOk, OnOk};
+ghost use Rattle.query_core.specs.Tree.{base};
+ghost use Rattle.query_core.specs.Grammar.{bases};
+ghost use Rattle.skeleton_list.specs.Listed.{Lists, listed, filter_on, pair_on, pairs_between, pairs_at, pairs_on, first_kinds, last_kinds, group_on, keyed_on, groups_on, last_listed, listed_at, next_listed};
 ghost use Rattle.skeleton_list.specs.View.{plain, plains, plain_levels};
 ghost use Rattle.skeleton_list.specs.declared.fault.ListFault.TheVariants.{TooMany};
 
@@ -9,7 +9,7 @@ use crate::fault::ListFault;
 use crate::keys::{agg_list, key_lists};
 use crate::pairing::Pairing;
 use crate::skeleton::Skeleton;
-use query_core::{Agg, Node};
+use query_core::Agg;
 use sqlite_items::Items;
 use std::alloc::Global;
 use table_core::TaskParts;
@@ -289,8 +289,8 @@ fn last_level(levels: &[Items<Skeleton>]) -> &[Skeleton]
     level(levels, levels.len().saturating_sub(1))
 }
 
-// The next level, where there is room for it.
-fn next_level(
+/// The next level, where there is room for it.
+pub fn next_level(
     alloc: Global,
     task: &TaskParts,
     room: usize,
@@ -305,13 +305,30 @@ fn next_level(
     Ok(Items::from_vec(out))
 }
 
-/// All skeletons of a task in their order, or nothing where there are more than `limit`.
-pub fn skeletons(
+// Appends the input of this number.
+fn push_base(
     alloc: Global,
     task: &TaskParts,
-    limit: usize,
-) -> Result<Option<Items<Node>>, OutOfMemory>
-    ensures { IfOk result (λ found. MatchOption found (limit < length (skeletons task.now)) (λ nodes. (map tree nodes ≡ skeletons task.now) × (length nodes ≤ limit))) }
+    table: usize,
+    out: &mut Items<Skeleton>,
+) -> Result<(), OutOfMemory>
+    ensures { OnOk result (plains out.new ≡ plains out.old ++ listed task.now (base table) ∷ []) }
 {
-    Err(OutOfMemory)
+    match u32::try_from(table) {
+        Ok(number) => out
+            .push(Skeleton::base(alloc, task, number)?)
+            .map_err(|_| OutOfMemory),
+        Err(_) => Err(OutOfMemory),
+    }
+}
+
+/// The inputs, in order.
+pub fn bases(alloc: Global, task: &TaskParts) -> Result<Items<Skeleton>, OutOfMemory>
+    ensures { IfOk result (λ out. plains out ≡ map (listed task.now) (bases task.now)) }
+{
+    let mut out = Items::new(alloc);
+    for table in 0..task.inputs.len() {
+        push_base(alloc, task, table, &mut out)?;
+    }
+    Ok(out)
 }

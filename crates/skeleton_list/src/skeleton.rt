@@ -2,16 +2,15 @@ ghost use Rattle.std.specs.Prelude.{◌≡◌, ◌++◌, nat_le, ◌+◌, length
 ghost use Rattle.std.specs.Ordering.{nat_cmp, is_gt};
 ghost use Rattle.std.specs.Cmp.Lexicographic.{slice_cmp, pointwise};
 ghost use Rattle.value_core.specs.Value.{same_type};
-ghost use Rattle.query_core.specs.Meaning.{group_types, type_at, agg_type};
 ghost use Rattle.query_core.specs.Grammar.{takes_filter};
-ghost use Rattle.query_core.specs.Tree.{filter};
+ghost use Rattle.query_core.specs.Tree.{base, filter};
 ghost use Rattle.query_core.specs.View.{tree};
 ghost use Rattle.skeleton_list.specs.Listed.{listed, may_pair, paired, paired_tree, paired_types, group_on, Listed};
 ghost use Rattle.skeleton_list.specs.View.{plain};
 
 use crate::pairing::Pairing;
 use predicate_core::Pred;
-use query_core::{Agg, Node};
+use query_core::{Agg, Node, group_types, input_types};
 use sqlite_items::{Boxed, Items};
 use std::alloc::Global;
 use table_core::TaskParts;
@@ -107,44 +106,18 @@ fn paired_types(
     }
 }
 
-// The type of a column, text where there is none.
-fn type_at(types: &[ColType], at: usize) -> ColType
-    ensures { result ≡ type_at types.now at }
-{
-    match types.get(at) {
-        Some(kind) => *kind,
-        None => ColType::Text,
-    }
-}
-
-// The type of what an aggregate gives over columns of these types.
-fn agg_type(types: &[ColType], agg: &Agg) -> ColType
-    ensures { result ≡ agg_type types.now agg.now }
-{
-    match agg {
-        Agg::Min(column) | Agg::Max(column) => type_at(types, *column),
-        _ => ColType::Int,
-    }
-}
-
-// The types of a group's columns.
-fn group_types(
-    alloc: Global,
-    types: &[ColType],
-    keys: &[usize],
-    agg: &Agg,
-) -> Result<Items<ColType>, OutOfMemory>
-    ensures { IfOk result (λ out. out ≡ group_types types.now keys.now agg.now) }
-{
-    let mut out = Items::new(alloc);
-    for key in keys {
-        out.push(type_at(types, *key)).map_err(|_| OutOfMemory)?;
-    }
-    out.push(agg_type(types, agg)).map_err(|_| OutOfMemory)?;
-    Ok(out)
-}
-
 impl Skeleton {
+    /// An input.
+    pub fn base(alloc: Global, task: &TaskParts, table: u32) -> Result<Skeleton, OutOfMemory>
+        ensures { IfOk result (λ s. plain s ≡ listed task.now (base table)) }
+    {
+        Ok(Skeleton {
+            node: Node::Base(table),
+            leaves: copied(alloc, &[table])?,
+            types: input_types(alloc, task, table as usize)?,
+        })
+    }
+
     /// Whether a filter may stand over it.
     pub fn takes_filter(&self) -> bool
         ensures { result ≡ takes_filter (tree self.now.node) }

@@ -1,0 +1,122 @@
+-- The answers of skeletons, by those of their parts.
+use Rattle.std.proofs.Common.{◌≡◌, ℕ, Bool, true, false, ◌&&◌, ◌||◌, not, ◌==◌, List, [], ◌∷◌, ◌++◌, map, length, Option, Some, None, is_some, refl, sym, ap, ◌∙◌, if◌then◌else◌}
+use Rattle.std.specs.Prelude.{filter as list_filter}
+use Rattle.std.specs.List.{flat_map, enumerate_from}
+use Rattle.std.proofs.lemmas.List.{map-append, append-nil}
+use Rattle.std.proofs.lemmas.List.Elements.{filter-append}
+use Rattle.value_core.specs.declared.value.ColType.{ColType}
+use Rattle.table_core.specs.Rows.{Row, types_of}
+use Rattle.table_core.specs.Bag.{same_rows, has_double}
+use Rattle.table_core.specs.declared.task.TaskParts.{TaskParts}
+use Rattle.query_core.specs.Tree.{Tree, Select}
+use Rattle.query_core.specs.Meaning.{columns, rows, selected, given_rows}
+use Rattle.query_core.specs.Grammar.{Numbered, maps, with_flags, queries_of_body, queries_of, fillings, numbered, queries, skeletons}
+use Rattle.query_core.specs.Standard.{rows_or_none, is_standard_tree}
+use Rattle.query_core.specs.Answers.{RankedQuery, ranked, is_answer, found}
+use Rattle.query_core.proofs.MapLaws.{single, flat_map_twice, flat_map_same, flat_map_none, flat_map_of_map, kept_joined}
+use Rattle.hole_choices.specs.declared.choice.Choice.{Choice}
+use Rattle.plain_search.specs.declared.kinds.Pairing.{Pairing}
+use Rattle.plain_search.specs.Filled.{Filled, filter_filled, filter_on, filters_on, drops_some, child_choices, pair_filled, pairs_on, pair_choices, filled_up}
+use Rattle.plain_search.specs.Kept.{kept, kept_query, kept_map, kept_by, kept_on, kept_of, kept_of_all}
+use Rattle.plain_search.proofs.FilledLaws.{is_filled, filling, filled_of, filled_up_is}
+
+by_choice : (task : TaskParts) (n : ℕ) (c : Filled) (choice : Choice) (b : Bool) → drops_some task c choice ≡ b
+    → flat_map (kept_by task n (maps c.types (types_of task.output))) (filter_on task c choice) ≡ flat_map (kept_on task n) (filter_on task c choice)
+by_choice task n c choice true is = rw is refl
+by_choice task n c choice false is = rw is refl
+
+-- the answers of the filters over a filled child, whose maps are the child's
+pub filters_kept : (task : TaskParts) (n : ℕ) (c : Filled) (ms : List (List ℕ)) (cs : List Choice) → ms ≡ maps c.types (types_of task.output) → cs ≡ child_choices task c
+    → flat_map (kept_by task n ms) (flat_map (filter_on task c) cs) ≡ flat_map (kept_on task n) (filters_on task c)
+filters_kept task n c ms cs is_maps is_choices =
+    ap (λ m. flat_map (kept_by task n m) (flat_map (filter_on task c) cs)) is_maps
+    ∙ flat_map_twice (kept_by task n (maps c.types (types_of task.output))) (filter_on task c) cs
+    ∙ flat_map_same (λ ch. flat_map (kept_by task n (maps c.types (types_of task.output))) (filter_on task c ch)) (λ ch. flat_map (kept_on task n) (filter_on task c ch)) cs (λ ch. by_choice task n c ch (drops_some task c ch) refl)
+    ∙ sym (flat_map_twice (kept_on task n) (filter_on task c) cs)
+    ∙ ap (λ xs. flat_map (kept_on task n) (flat_map (filter_on task c) xs)) is_choices
+
+-- the answers of the joins or left joins of two filled parts
+pub pairs_kept : (task : TaskParts) (n : ℕ) (kind : Pairing) (a b : Filled) (ms : List (List ℕ)) (cs : List Choice) → ms ≡ maps (a.types ++ b.types) (types_of task.output) → cs ≡ pair_choices task a b
+    → flat_map (kept_by task n ms) (map (pair_filled task kind a b) cs) ≡ flat_map (kept_on task n) (pairs_on task kind a b)
+pairs_kept task n kind a b ms cs is_maps is_choices =
+    ap (λ m. flat_map (kept_by task n m) (map (pair_filled task kind a b) cs)) is_maps
+    ∙ flat_map_of_map (kept_by task n (maps (a.types ++ b.types) (types_of task.output))) (pair_filled task kind a b) cs
+    ∙ sym (flat_map_of_map (kept_on task n) (pair_filled task kind a b) cs)
+    ∙ ap (λ xs. flat_map (kept_on task n) (map (pair_filled task kind a b) xs)) is_choices
+
+-- a query with the number of its skeleton
+abbrev numbered_as : ℕ → Select → Numbered
+numbered_as n q = record { skeleton = n; query = q }
+
+abbrev query_of : Tree → List ℕ → Bool → Select
+query_of body picks distinct = record { body = body; picks = picks; distinct = distinct }
+
+-- what is kept of one query
+kept_one : (task : TaskParts) (n : ℕ) (x : Tree) (picks : List ℕ) (distinct : Bool) (found : List Row) → rows task x ≡ Some found → is_standard_tree task x ≡ true
+    → is_answer task (numbered_as n (query_of x picks distinct)) ≡ ((not distinct || has_double (selected picks (rows_or_none task x))) && ((length picks == length task.output.columns) && same_rows (given_rows picks distinct (rows_or_none task x)) task.output.rows))
+kept_one task n x picks distinct found has standard = rw (has, standard) refl
+
+kept_single : (task : TaskParts) (n : ℕ) (x : Tree) (picks : List ℕ) (distinct : Bool) (found : List Row) → rows task x ≡ Some found → is_standard_tree task x ≡ true
+    → kept task n (query_of x picks distinct ∷ []) ≡ kept_query task n (filling task x) picks distinct
+kept_single task n x picks distinct found has standard = rw (kept_one task n x picks distinct found has standard) (answer_or_not _)
+  where
+  answer_or_not : (b : Bool) → map (ranked task) (if b then numbered_as n (query_of x picks distinct) ∷ [] else []) ≡ (if b then ranked task (numbered_as n (query_of x picks distinct)) ∷ [] else [])
+  answer_or_not true = refl
+  answer_or_not false = refl
+
+kept_append : (task : TaskParts) (n : ℕ) (xs ys : List Select) → kept task n (xs ++ ys) ≡ kept task n xs ++ kept task n ys
+kept_append task n xs ys =
+    ap (λ qs. map (ranked task) (list_filter (is_answer task) qs)) (map-append (numbered_as n) xs ys)
+    ∙ ap (map (ranked task)) (filter-append (is_answer task) (map (numbered_as n) xs) (map (numbered_as n) ys))
+    ∙ map-append (ranked task) (list_filter (is_answer task) (map (numbered_as n) xs)) (list_filter (is_answer task) (map (numbered_as n) ys))
+
+kept_of_joined : {A : Type 0} (task : TaskParts) (n : ℕ) (f : A → List Select) (xs : List A) → kept task n (flat_map f xs) ≡ flat_map (λ x. kept task n (f x)) xs
+kept_of_joined task n f [] = refl
+kept_of_joined task n f (x ∷ xs) = kept_append task n (f x) (flat_map f xs) ∙ ap (λ t. kept task n (f x) ++ t) (kept_of_joined task n f xs)
+
+-- what is kept of the queries of a tree that is standard and has rows
+kept_some : (task : TaskParts) (n : ℕ) (x : Tree) (found : List Row) → rows task x ≡ Some found → is_standard_tree task x ≡ true → kept task n (queries_of_body task x) ≡ kept_on task n (filling task x)
+kept_some task n x found has standard =
+    kept_of_joined task n (with_flags x) (maps (columns task x) (types_of task.output))
+    ∙ flat_map_same (λ picks. kept task n (with_flags x picks)) (kept_map task n (filling task x)) (maps (columns task x) (types_of task.output))
+        (λ picks. kept_append task n (query_of x picks false ∷ []) (query_of x picks true ∷ [])
+            ∙ ap (λ t. t ++ kept task n (query_of x picks true ∷ [])) (kept_single task n x picks false found has standard)
+            ∙ ap (λ t. kept_query task n (filling task x) picks false ++ t) (kept_single task n x picks true found has standard))
+
+-- what is kept of the queries of any other tree
+none_answers : (task : TaskParts) (n : ℕ) (x : Tree) (picks : List ℕ) (distinct : Bool) (o : Option (List Row)) (b : Bool) → rows task x ≡ o → is_standard_tree task x ≡ b → is_some o && b ≡ false
+    → is_answer task (numbered_as n (query_of x picks distinct)) ≡ false
+none_answers task n x picks distinct o false has standard not_both = rw standard refl
+none_answers task n x picks distinct (Some found) true has standard not_both = cc
+none_answers task n x picks distinct None true has standard not_both = rw (has, standard) (and_false _)
+  where
+  and_false : (c : Bool) → (c && false) ≡ false
+  and_false true = refl
+  and_false false = refl
+
+kept_none : (task : TaskParts) (n : ℕ) (x : Tree) (o : Option (List Row)) (b : Bool) → rows task x ≡ o → is_standard_tree task x ≡ b → is_some o && b ≡ false → kept task n (queries_of_body task x) ≡ []
+kept_none task n x o b has standard not_both =
+    kept_of_joined task n (with_flags x) (maps (columns task x) (types_of task.output))
+    ∙ flat_map_none (λ picks. kept task n (with_flags x picks)) (maps (columns task x) (types_of task.output))
+        (λ picks. rw (none_answers task n x picks false o b has standard not_both, none_answers task n x picks true o b has standard not_both) refl)
+
+kept_body : (task : TaskParts) (n : ℕ) (x : Tree) (o : Option (List Row)) (b : Bool) → rows task x ≡ o → is_standard_tree task x ≡ b → kept task n (queries_of_body task x) ≡ flat_map (kept_on task n) (filled_of task x)
+kept_body task n x None b has standard = kept_none task n x None b has standard refl ∙ rw has refl
+kept_body task n x (Some found) false has standard = kept_none task n x (Some found) false has standard refl ∙ rw (has, standard) refl
+kept_body task n x (Some found) true has standard =
+    let one : filled_of task x ≡ filling task x ∷ [] = rw (has, standard) refl in
+    kept_some task n x found has standard ∙ sym (ap (flat_map (kept_on task n)) one ∙ append-nil (kept_on task n (filling task x)))
+
+-- what is kept of the queries of a skeleton
+kept_skeleton : (task : TaskParts) (s : ℕ × Tree) → kept task s.0 (queries_of task s.1) ≡ kept_of task s
+kept_skeleton task s =
+    kept_of_joined task s.0 (queries_of_body task) (fillings task s.1)
+    ∙ flat_map_same (λ x. kept task s.0 (queries_of_body task x)) (λ x. flat_map (kept_on task s.0) (filled_of task x)) (fillings task s.1) (λ x. kept_body task s.0 x (rows task x) (is_standard_tree task x) refl refl)
+    ∙ sym (flat_map_twice (kept_on task s.0) (filled_of task) (fillings task s.1))
+    ∙ ap (flat_map (kept_on task s.0)) (filled_up_is task s.1)
+
+-- the answers of a task are those of its skeletons
+pub found_is : (task : TaskParts) → map (ranked task) (found task) ≡ kept_of_all task (skeletons task)
+found_is task =
+    kept_joined (ranked task) (is_answer task) (numbered task) (enumerate_from 0 (skeletons task))
+    ∙ flat_map_same (λ s. map (ranked task) (list_filter (is_answer task) (numbered task s))) (kept_of task) (enumerate_from 0 (skeletons task)) (kept_skeleton task)

@@ -1,0 +1,313 @@
+ghost use Rattle.std.specs.Prelude.{◌≡◌, ◌≤◌, ◌<◌, ◌^◌, ◌++◌, OnOk, IfOk, map, flat_map, length, option_map};
+ghost use Rattle.query_core.specs.View.{tree};
+ghost use Rattle.rank_core.specs.View.{ranked_query};
+ghost use Rattle.plain_search.specs.Filled.{as_list, filter_on, filters_on, pair_filled, pairs_on, groups_on, unions_on, of_each_filled};
+ghost use Rattle.plain_search.specs.Kept.{kept_by, kept_on, kept_of, kept_of_all};
+ghost use Rattle.plain_search.specs.View.{filled};
+
+use crate::answers::{output_maps, push_answers, push_body, push_some_answers};
+use crate::body::Body;
+use crate::fill::{child_choices, fill, filter_on, pair_choices, pair_types};
+use crate::kinds::{Pairing, Uniting};
+use hole_choices::Choice;
+use query_core::{Agg, Node};
+use rank_core::Ranked;
+use sqlite_items::Items;
+use std::alloc::Global;
+use table_core::TaskParts;
+use value_core::OutOfMemory;
+
+// Appends the answers, with these maps, of the filters by these choices over this body.
+fn push_chosen_filters(
+    alloc: Global,
+    task: &TaskParts,
+    skeleton: u32,
+    child: &Body,
+    choices: &[Choice],
+    maps: &[Items<usize>],
+    out: &mut Vec<Ranked>,
+) -> Result<(), OutOfMemory>
+    ensures { OnOk result (map ranked_query out.new.items ≡ map ranked_query out.old.items ++ flat_map (kept_by task.now skeleton maps.now) (flat_map (filter_on task.now (filled child.now)) choices.now)) }
+{
+    for choice in choices {
+        let body = filter_on(alloc, task, child, choice)?;
+        push_some_answers(alloc, task, skeleton, body, maps, out)?;
+    }
+    Ok(())
+}
+
+// Appends the answers of the standard filters over this body.
+fn push_filters(
+    alloc: Global,
+    task: &TaskParts,
+    skeleton: u32,
+    child: &Body,
+    out: &mut Vec<Ranked>,
+) -> Result<(), OutOfMemory>
+    requires some { 1 ≤ task.now.atoms }
+    requires few { task.now.atoms ≤ 3 }
+    ensures { OnOk result (map ranked_query out.new.items ≡ map ranked_query out.old.items ++ flat_map (kept_on task.now skeleton) (filters_on task.now (filled child.now))) }
+{
+    let maps = output_maps(alloc, task, child.types.as_slice())?;
+    let choices = child_choices(alloc, task, child)?;
+    let (choices, maps) = (choices.as_slice(), maps.as_slice());
+    push_chosen_filters(alloc, task, skeleton, child, choices, maps, out)
+}
+
+// Appends the answers of the standard filters over these bodies.
+fn push_all_filters(
+    alloc: Global,
+    task: &TaskParts,
+    skeleton: u32,
+    children: &[Body],
+    out: &mut Vec<Ranked>,
+) -> Result<(), OutOfMemory>
+    requires some { 1 ≤ task.now.atoms }
+    requires few { task.now.atoms ≤ 3 }
+    ensures { OnOk result (map ranked_query out.new.items ≡ map ranked_query out.old.items ++ flat_map (kept_on task.now skeleton) (flat_map (filters_on task.now) (map filled children.now))) }
+{
+    for child in children {
+        push_filters(alloc, task, skeleton, child, out)?;
+    }
+    Ok(())
+}
+
+// Appends the answers, with these maps, of the joins or left joins of two bodies by these choices.
+fn push_chosen_pairs(
+    alloc: Global,
+    task: &TaskParts,
+    skeleton: u32,
+    kind: Pairing,
+    a: &Body,
+    b: &Body,
+    choices: &[Choice],
+    maps: &[Items<usize>],
+    out: &mut Vec<Ranked>,
+) -> Result<(), OutOfMemory>
+    ensures { OnOk result (map ranked_query out.new.items ≡ map ranked_query out.old.items ++ flat_map (kept_by task.now skeleton maps.now) (map (pair_filled task.now kind (filled a.now) (filled b.now)) choices.now)) }
+{
+    for choice in choices {
+        let body = a.pair(alloc, task, kind, b, choice)?;
+        push_answers(alloc, task, skeleton, &body, maps, out)?;
+    }
+    Ok(())
+}
+
+// Appends the answers of the standard joins or left joins of two bodies.
+fn push_pair(
+    alloc: Global,
+    task: &TaskParts,
+    skeleton: u32,
+    kind: Pairing,
+    a: &Body,
+    b: &Body,
+    out: &mut Vec<Ranked>,
+) -> Result<(), OutOfMemory>
+    requires some { 1 ≤ task.now.atoms }
+    requires few { task.now.atoms ≤ 3 }
+    ensures { OnOk result (map ranked_query out.new.items ≡ map ranked_query out.old.items ++ flat_map (kept_on task.now skeleton) (pairs_on task.now kind (filled a.now) (filled b.now))) }
+{
+    let types = pair_types(alloc, a, b)?;
+    let maps = output_maps(alloc, task, types.as_slice())?;
+    let choices = pair_choices(alloc, task, a, b)?;
+    let (choices, maps) = (choices.as_slice(), maps.as_slice());
+    push_chosen_pairs(alloc, task, skeleton, kind, a, b, choices, maps, out)
+}
+
+// Appends the answers of those of a body with each of these.
+fn push_pairs_with(
+    alloc: Global,
+    task: &TaskParts,
+    skeleton: u32,
+    kind: Pairing,
+    a: &Body,
+    others: &[Body],
+    out: &mut Vec<Ranked>,
+) -> Result<(), OutOfMemory>
+    requires some { 1 ≤ task.now.atoms }
+    requires few { task.now.atoms ≤ 3 }
+    ensures { OnOk result (map ranked_query out.new.items ≡ map ranked_query out.old.items ++ flat_map (kept_on task.now skeleton) (flat_map (pairs_on task.now kind (filled a.now)) (map filled others.now))) }
+{
+    for b in others {
+        push_pair(alloc, task, skeleton, kind, a, b, out)?;
+    }
+    Ok(())
+}
+
+// Appends the answers of those of each of these bodies with each of those.
+fn push_pairs(
+    alloc: Global,
+    task: &TaskParts,
+    skeleton: u32,
+    kind: Pairing,
+    lefts: &[Body],
+    rights: &[Body],
+    out: &mut Vec<Ranked>,
+) -> Result<(), OutOfMemory>
+    requires some { 1 ≤ task.now.atoms }
+    requires few { task.now.atoms ≤ 3 }
+    ensures { OnOk result (map ranked_query out.new.items ≡ map ranked_query out.old.items ++ flat_map (kept_on task.now skeleton) (of_each_filled (pairs_on task.now kind) (map filled lefts.now) (map filled rights.now))) }
+{
+    for a in lefts {
+        push_pairs_with(alloc, task, skeleton, kind, a, rights, out)?;
+    }
+    Ok(())
+}
+
+// Appends the answers of a body, if there is one.
+fn push_some(
+    alloc: Global,
+    task: &TaskParts,
+    skeleton: u32,
+    body: Option<Body>,
+    out: &mut Vec<Ranked>,
+) -> Result<(), OutOfMemory>
+    ensures { OnOk result (map ranked_query out.new.items ≡ map ranked_query out.old.items ++ flat_map (kept_on task.now skeleton) (as_list (option_map filled body))) }
+{
+    match body {
+        Some(body) => push_body(alloc, task, skeleton, &body, out),
+        None => Ok(()),
+    }
+}
+
+// Appends the answers of the groups over these bodies.
+fn push_groups(
+    alloc: Global,
+    task: &TaskParts,
+    skeleton: u32,
+    keys: &[usize],
+    agg: &Agg,
+    children: &[Body],
+    out: &mut Vec<Ranked>,
+) -> Result<(), OutOfMemory>
+    ensures { OnOk result (map ranked_query out.new.items ≡ map ranked_query out.old.items ++ flat_map (kept_on task.now skeleton) (flat_map (groups_on keys.now agg.now) (map filled children.now))) }
+{
+    for child in children {
+        let body = child.group(alloc, keys, agg)?;
+        push_some(alloc, task, skeleton, body, out)?;
+    }
+    Ok(())
+}
+
+// Appends the answers of the union of two bodies.
+fn push_union(
+    alloc: Global,
+    task: &TaskParts,
+    skeleton: u32,
+    kind: Uniting,
+    a: &Body,
+    b: &Body,
+    out: &mut Vec<Ranked>,
+) -> Result<(), OutOfMemory>
+    ensures { OnOk result (map ranked_query out.new.items ≡ map ranked_query out.old.items ++ flat_map (kept_on task.now skeleton) (unions_on kind (filled a.now) (filled b.now))) }
+{
+    let body = a.union(alloc, kind, b)?;
+    push_body(alloc, task, skeleton, &body, out)
+}
+
+// Appends the answers of the unions of a body with each of these.
+fn push_unions_with(
+    alloc: Global,
+    task: &TaskParts,
+    skeleton: u32,
+    kind: Uniting,
+    a: &Body,
+    others: &[Body],
+    out: &mut Vec<Ranked>,
+) -> Result<(), OutOfMemory>
+    ensures { OnOk result (map ranked_query out.new.items ≡ map ranked_query out.old.items ++ flat_map (kept_on task.now skeleton) (flat_map (unions_on kind (filled a.now)) (map filled others.now))) }
+{
+    for b in others {
+        push_union(alloc, task, skeleton, kind, a, b, out)?;
+    }
+    Ok(())
+}
+
+// Appends the answers of the unions of each of these bodies with each of those.
+fn push_unions(
+    alloc: Global,
+    task: &TaskParts,
+    skeleton: u32,
+    kind: Uniting,
+    lefts: &[Body],
+    rights: &[Body],
+    out: &mut Vec<Ranked>,
+) -> Result<(), OutOfMemory>
+    ensures { OnOk result (map ranked_query out.new.items ≡ map ranked_query out.old.items ++ flat_map (kept_on task.now skeleton) (of_each_filled (unions_on kind) (map filled lefts.now) (map filled rights.now))) }
+{
+    for a in lefts {
+        push_unions_with(alloc, task, skeleton, kind, a, rights, out)?;
+    }
+    Ok(())
+}
+
+/// Appends the answers of a skeleton with this number.
+pub fn push_skeleton(
+    alloc: Global,
+    task: &TaskParts,
+    number: u32,
+    skeleton: &Node,
+    out: &mut Vec<Ranked>,
+) -> Result<(), OutOfMemory>
+    requires some { 1 ≤ task.now.atoms }
+    requires few { task.now.atoms ≤ 3 }
+    ensures { OnOk result (map ranked_query out.new.items ≡ map ranked_query out.old.items ++ kept_of task.now (number, tree skeleton.now)) }
+{
+    match skeleton {
+        Node::Base(table) => {
+            let body = Body::base(alloc, task, *table)?;
+            push_body(alloc, task, number, &body, out)
+        }
+        Node::Filter(child, _) => {
+            let children = fill(alloc, task, child.get())?;
+            push_all_filters(alloc, task, number, children.as_slice(), out)
+        }
+        Node::Join(a, b, _) => {
+            let lefts = fill(alloc, task, a.get())?;
+            let rights = fill(alloc, task, b.get())?;
+            let (lefts, rights) = (lefts.as_slice(), rights.as_slice());
+            push_pairs(alloc, task, number, Pairing::Join, lefts, rights, out)
+        }
+        Node::Left(a, b, _) => {
+            let lefts = fill(alloc, task, a.get())?;
+            let rights = fill(alloc, task, b.get())?;
+            let (lefts, rights) = (lefts.as_slice(), rights.as_slice());
+            push_pairs(alloc, task, number, Pairing::Left, lefts, rights, out)
+        }
+        Node::Group(child, keys, agg) => {
+            let children = fill(alloc, task, child.get())?;
+            let keys = keys.as_slice();
+            push_groups(alloc, task, number, keys, agg, children.as_slice(), out)
+        }
+        Node::UnionAll(a, b) => {
+            let lefts = fill(alloc, task, a.get())?;
+            let rights = fill(alloc, task, b.get())?;
+            let (lefts, rights) = (lefts.as_slice(), rights.as_slice());
+            push_unions(alloc, task, number, Uniting::All, lefts, rights, out)
+        }
+        Node::Union(a, b) => {
+            let lefts = fill(alloc, task, a.get())?;
+            let rights = fill(alloc, task, b.get())?;
+            let (lefts, rights) = (lefts.as_slice(), rights.as_slice());
+            push_unions(alloc, task, number, Uniting::Firsts, lefts, rights, out)
+        }
+    }
+}
+
+/// The answers of some skeletons, which are numbered from 0, in the grammar's order.
+pub fn found(
+    alloc: Global,
+    task: &TaskParts,
+    skeletons: &[Node],
+) -> Result<Vec<Ranked>, OutOfMemory>
+    requires some { 1 ≤ task.now.atoms }
+    requires few { task.now.atoms ≤ 3 }
+    requires small { length skeletons.now < 2 ^ 32 }
+    ensures { IfOk result (λ list. map ranked_query list.items ≡ kept_of_all task.now (map tree skeletons.now)) }
+{
+    let mut out = Vec::new(alloc);
+    for number in 0..skeletons.len() {
+        push_skeleton(alloc, task, number as u32, &skeletons[number], &mut out)?;
+    }
+    Ok(out)
+}

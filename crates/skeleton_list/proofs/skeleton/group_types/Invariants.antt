@@ -1,6 +1,0 @@
-use Rattle.std.proofs.Common.{◌≡◌, map, take}
-use Rattle.query_core.specs.Meaning.{type_at}
-use Rattle.skeleton_list.proofs.skeleton.group_types.Given as goal
-
-abbrev pub invariant-loop-key : goal.invariant-loop-key
-invariant-loop-key l = l.out ≡ map (type_at l.types) (take l.key-index l.keys)
