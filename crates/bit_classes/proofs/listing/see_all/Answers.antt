@@ -1,0 +1,38 @@
+use Rattle.std.proofs.Common.{◌≡◌, refl, ap, ◌∙◌, ◌+◌, true, [], ◌∷◌, ◌++◌, replicate, length, Ok, Err}
+use Rattle.std.specs.List.{enumerate_from}
+use Rattle.std.proofs.lemmas.Result.{err_from_is_err_and}
+use Rattle.bit_classes.specs.Vectors.{more_vectors}
+use Rattle.bit_classes.proofs.WalkLaws.{sees_same, sees_then, sees_stopped}
+use Rattle.bit_classes.proofs.PartLaws.{sees_parts, sees_first_part}
+use Rattle.bit_classes.proofs.listing.see_all.Goals as goal
+
+pub returns-in_err-see : goal.returns-in_err-see
+returns-in_err-see c =
+    let found = c.args.found.now in
+    let rest = enumerate_from 1 (c.args.rows.now ++ more_vectors c.args.rows.now c.args.bound) in
+    let full_is : c.in_ok-full.full ≡ replicate found.width true = c.in_ok-full.ensures ∙ ap (λ w. replicate w true) c.width.ensures in
+    let end = c.in_err-see.field-0.0 in
+    let first = sees_same found c.see.new.self (Err end) _ _ (ap (λ v. (0, v) ∷ []) full_is) c.in_err-see.ensures in
+    let p = err_from_is_err_and c.from_residual-in_err-see.result c.from_residual-in_err-see.ensures.1 in
+    rw (p.1, p.2) (sees_stopped found c.see.new.self c.see.new.self ((0, replicate found.width true) ∷ []) rest end first)
+
+pub returns-in_err-see_rows : goal.returns-in_err-see_rows
+returns-in_err-see_rows c =
+    let found = c.args.found.now in
+    let more = more_vectors c.args.rows.now c.args.bound in
+    let full_is : c.in_ok-full.full ≡ replicate found.width true = c.in_ok-full.ensures ∙ ap (λ w. replicate w true) c.width.ensures in
+    let end = c.in_err-see_rows.field-0.0 in
+    let first = sees_same found c.see.new.self (Ok tt) _ _ (ap (λ v. (0, v) ∷ []) full_is) c.in_ok-see.ensures in
+    let second = sees_first_part c.see.new.self c.see_rows.new.found c.see_rows.new.found 1 c.args.rows.now more end c.in_err-see_rows.ensures in
+    let p = err_from_is_err_and c.from_residual-in_err-see_rows.result c.from_residual-in_err-see_rows.ensures.1 in
+    rw (p.1, p.2) (sees_then found c.see.new.self c.see_rows.new.found ((0, replicate found.width true) ∷ []) (enumerate_from 1 (c.args.rows.now ++ more)) (Err end) first second)
+
+pub returns : goal.returns
+returns c =
+    let found = c.args.found.now in
+    let rows = c.args.rows.now in
+    let more = more_vectors rows c.args.bound in
+    let full_is : c.in_ok-full.full ≡ replicate found.width true = c.in_ok-full.ensures ∙ ap (λ w. replicate w true) c.width.ensures in
+    let first = sees_same found c.see.new.self (Ok tt) _ _ (ap (λ v. (0, v) ∷ []) full_is) c.in_ok-see.ensures in
+    let second = sees_parts c.see.new.self c.see_rows.new.found c.see_more.new.found 1 (1 + length rows) rows more c.see_more.result refl c.in_ok-see_rows.ensures c.see_more.ensures in
+    sees_then found c.see.new.self c.see_more.new.found ((0, replicate found.width true) ∷ []) (enumerate_from 1 (rows ++ more)) c.see_more.result first second

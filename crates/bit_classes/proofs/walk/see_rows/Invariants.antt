@@ -1,0 +1,7 @@
+use Rattle.std.proofs.Common.{◌+◌, drop}
+use Rattle.std.specs.List.{enumerate_from}
+use Rattle.bit_classes.proofs.WalkLaws.{OnWay}
+use Rattle.bit_classes.proofs.walk.see_rows.Given as goal
+
+abbrev pub invariant-loop-i : goal.invariant-loop-i
+invariant-loop-i l = OnWay l.initial.found (enumerate_from l.number l.rows) l.found (enumerate_from (l.number + l.i) (drop l.i l.rows))

@@ -1,0 +1,16 @@
+//! Classes of predicates: each vector of kept rows once, with the number of the first predicate that gives it.
+#![tactic(auto)]
+
+mod class;
+mod found;
+mod join;
+mod laws;
+mod listing;
+mod walk;
+
+pub use class::{Class, ClassEnd};
+pub use laws::vectors_are_of_preds;
+pub use listing::classes;
+
+#[cfg(test)]
+mod tests;

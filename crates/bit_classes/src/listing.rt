@@ -1,0 +1,96 @@
+ghost use Rattle.std.specs.Prelude.{◌≡◌, ◌+◌, ◌<◌, ◌≤◌, ◌^◌, ◌++◌, length, IfOk, OnOk};
+ghost use Rattle.std.specs.List.{All, enumerate_from};
+ghost use Rattle.bit_classes.specs.declared.class.ClassEnd.TheVariants.{More};
+ghost use Rattle.bit_classes.specs.declared.join.Join.TheVariants.{And, Or};
+ghost use Rattle.bit_classes.specs.Vectors.{joined_pairs, joined_triples, more_vectors, vectors};
+ghost use Rattle.bit_classes.specs.Classes.{classes_of};
+ghost use Rattle.bit_classes.specs.Walk.{Sees};
+
+use crate::class::{Class, ClassEnd};
+use crate::found::Found;
+use crate::join::Join;
+use crate::walk::{see_pairs, see_rows, see_triples};
+use bit_rows::BitRow;
+use predicate_core::{pair_count, triple_count};
+use std::alloc::Global;
+
+// Sees the vectors of the predicates of two atoms, under the numbers from one on.
+fn see_two(found: &mut Found, rows: &[BitRow], number: u64) -> Result<(), ClassEnd>
+    requires widths { All (λ row. length row ≡ found.old.width) rows.now }
+    requires few { length rows.now ≤ 100000 }
+    requires small { number ≤ 2 ^ 59 }
+    ensures { Sees found.old (enumerate_from number (joined_pairs And rows.now ++ joined_pairs Or rows.now)) found.new result }
+{
+    see_pairs(found, Join::And, rows, number)?;
+    see_pairs(
+        found,
+        Join::Or,
+        rows,
+        number + pair_count(rows.len() as u64),
+    )
+}
+
+// Sees the vectors of the predicates of three atoms, under the numbers from one on.
+fn see_three(found: &mut Found, rows: &[BitRow], number: u64) -> Result<(), ClassEnd>
+    requires widths { All (λ row. length row ≡ found.old.width) rows.now }
+    requires few { length rows.now ≤ 100000 }
+    requires small { number ≤ 2 ^ 59 }
+    ensures { Sees found.old (enumerate_from number (joined_triples And rows.now ++ joined_triples Or rows.now)) found.new result }
+{
+    see_triples(found, Join::And, rows, number)?;
+    see_triples(
+        found,
+        Join::Or,
+        rows,
+        number + triple_count(rows.len() as u64),
+    )
+}
+
+// Sees the vectors of the predicates of two or three atoms, as far as the bound goes.
+fn see_more(found: &mut Found, rows: &[BitRow], bound: u32, number: u64) -> Result<(), ClassEnd>
+    requires widths { All (λ row. length row ≡ found.old.width) rows.now }
+    requires few { length rows.now ≤ 100000 }
+    requires small { number ≤ 2 ^ 58 }
+    ensures { Sees found.old (enumerate_from number (more_vectors rows.now bound)) found.new result }
+{
+    if bound < 2 {
+        return Ok(());
+    }
+    see_two(found, rows, number)?;
+    if bound < 3 {
+        return Ok(());
+    }
+    see_three(found, rows, number + 2 * pair_count(rows.len() as u64))
+}
+
+// Sees the vector of each predicate, under its number.
+fn see_all(found: &mut Found, rows: &[BitRow], bound: u32) -> Result<(), ClassEnd>
+    requires widths { All (λ row. length row ≡ found.old.width) rows.now }
+    requires few { length rows.now ≤ 100000 }
+    ensures { Sees found.old (enumerate_from 0 (vectors found.old.width rows.now bound)) found.new result }
+{
+    let full = BitRow::full(found.alloc(), found.width())?;
+    found.see(&full, 0)?;
+    see_rows(found, rows, 1)?;
+    see_more(found, rows, bound, 1 + rows.len() as u64)
+}
+
+/// Each vector that some predicate of up to `bound` atoms gives, once, with the number of the first predicate that gives it,
+/// ascending by number. Here a vector tells which of `width` rows are kept, and `atoms` has the vector of each atom.
+pub fn classes(
+    alloc: Global,
+    width: usize,
+    atoms: &[BitRow],
+    bound: u32,
+    limit: u64,
+) -> Result<Vec<Class>, ClassEnd>
+    requires widths { All (λ row. length row ≡ width) atoms.now }
+    requires few { length atoms.now ≤ 100000 }
+    ensures classes { IfOk result (λ found. found.items ≡ classes_of (vectors width atoms.now bound)) }
+    ensures within { OnOk result (length (classes_of (vectors width atoms.now bound)) ≤ limit) }
+    ensures more { result ≡ Err More → limit < length (classes_of (vectors width atoms.now bound)) }
+{
+    let mut found = Found::new(alloc, width, limit);
+    see_all(&mut found, atoms, bound)?;
+    found.into_classes()
+}
