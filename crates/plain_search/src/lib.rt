@@ -7,6 +7,7 @@ mod columns;
 mod fill;
 mod kinds;
 mod listing;
+mod roots;
+mod search;
 
-pub use body::Body;
-pub use kinds::{Pairing, Uniting};
+pub use search::{few, plain};

@@ -1,0 +1,13 @@
+use Rattle.std.proofs.Common.{◌≡◌, ◌++◌, map, drop}
+use Rattle.std.specs.List.{flat_map, enumerate_from}
+use Rattle.query_core.specs.View.{tree}
+use Rattle.rank_core.specs.View.{ranked_query}
+use Rattle.plain_search.specs.Filled.{filter_on, filters_on, pair_filled, pairs_on, groups_on, unions_on, of_each_filled}
+use Rattle.plain_search.specs.Kept.{kept_by, kept_on, kept_of, kept_of_all}
+use Rattle.plain_search.specs.View.{filled}
+use Rattle.plain_search.proofs.roots.push_unions_with.Given as goal
+
+abbrev pub invariant-loop-b : goal.invariant-loop-b
+invariant-loop-b l =
+    map ranked_query l.out.items ++ flat_map (kept_on l.task l.skeleton) (flat_map (unions_on l.kind (filled l.a)) (map filled (drop l.b-index l.others)))
+    ≡ map ranked_query l.initial.out.items ++ flat_map (kept_on l.task l.skeleton) (flat_map (unions_on l.kind (filled l.a)) (map filled l.others))

@@ -1,0 +1,45 @@
+ghost use Rattle.std.specs.Prelude.{◌≡◌, ◌≤◌, nat_le, length, map, IfOk};
+ghost use Rattle.query_core.specs.Grammar.{skeletons};
+ghost use Rattle.query_core.specs.Answers.{answers, ranked, found};
+ghost use Rattle.rank_core.specs.View.{ranked_query};
+
+use crate::roots::found;
+use rank_core::{Ranked, sort};
+use skeleton_list::skeletons;
+use std::alloc::Global;
+use table_core::{Task, TaskParts};
+use value_core::OutOfMemory;
+
+// The most skeletons of a task that is listed.
+const MOST_SKELETONS: usize = 100_000;
+
+/// Whether a task has at most 100,000 skeletons. It looks no further than these.
+pub fn few(alloc: Global, task: &Task) -> Result<bool, OutOfMemory>
+    ensures { IfOk result (λ b. b ≡ nat_le (length (skeletons task.now)) 100000) }
+{
+    let listed = skeletons(alloc, task.parts(), MOST_SKELETONS)?;
+    Ok(listed.is_some())
+}
+
+// The answers of the task of these parts, in the grammar's order.
+fn listed(alloc: Global, parts: &TaskParts) -> Result<Vec<Ranked>, OutOfMemory>
+    requires some { 1 ≤ parts.now.atoms }
+    requires few { parts.now.atoms ≤ 3 }
+    requires small { length (skeletons parts.now) ≤ 100000 }
+    ensures { IfOk result (λ list. map ranked_query list.items ≡ map (ranked parts.now) (found parts.now)) }
+{
+    let Some(nodes) = skeletons(alloc, parts, MOST_SKELETONS)? else {
+        return Err(OutOfMemory);
+    };
+    found(alloc, parts, nodes.as_slice())
+}
+
+/// The answers of a task, best first, by looking at every query of its grammar.
+pub fn plain(alloc: Global, task: &Task) -> Result<Vec<Ranked>, OutOfMemory>
+    requires { length (skeletons task.now) ≤ 100000 }
+    ensures { IfOk result (λ list. map ranked_query list.items ≡ answers task.now) }
+{
+    let mut list = listed(alloc, task.parts())?;
+    sort(&mut list)?;
+    Ok(list)
+}
