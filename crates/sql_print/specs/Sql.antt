@@ -1,5 +1,5 @@
 -- The SQL text of a query.
-use Rattle.std.specs.Prelude.{ℕ, ◌+◌, List, [], ◌∷◌, ◌++◌, map, flat_map, length, codes, ◌==◌, slice_get, unwrap_or, if◌then◌else◌}
+use Rattle.std.specs.Prelude.{ℕ, ◌+◌, Bool, true, false, List, [], ◌∷◌, ◌++◌, map, flat_map, length, codes, ◌==◌, slice_get, unwrap_or, if◌then◌else◌}
 use Rattle.std.specs.List.{range_with_len, zip}
 use Rattle.std.specs.Fmt.{decimal, signed_decimal}
 use Rattle.value_core.specs.declared.value.Value.{Value}
@@ -13,7 +13,12 @@ use Rattle.predicate_core.specs.declared.pred.Pred.{Pred}
 use Rattle.predicate_core.specs.declared.pred.Pred.TheVariants.{Always, One, And2, Or2, And3, Or3}
 use Rattle.table_core.specs.declared.column.Column.{Column}
 use Rattle.table_core.specs.declared.task.TaskParts.{TaskParts}
-use Rattle.query_core.specs.Tree.{Tree, Select, base, filter}
+use Rattle.query_core.specs.Tree.{Tree, Select}
+use Rattle.query_core.specs.Tree as t
+use Rattle.query_core.specs.declared.agg.Agg.{Agg}
+use Rattle.query_core.specs.declared.agg.Agg.TheVariants.{CountAll, Count, CountDistinct, Sum, Min, Max}
+use Rattle.sql_print.specs.declared.part.Place.{Place}
+use Rattle.sql_print.specs.declared.part.Place.TheVariants.{Among, AfterFrom}
 use Rattle.query_core.specs.Meaning.{input_at}
 
 -- a byte, twice where it is the mark
@@ -122,23 +127,98 @@ from_where constants source p = record {
 abbrev pub derived_column : ℕ → ℕ → List ℕ
 derived_column number at = alias number ++ codes "." ++ column_name at
 
--- a part after `FROM`, made a derived source: selected whole, in parentheses, under the next alias
-abbrev pub derived : Part → Part
-derived part = record {
-  text = codes "(SELECT " ++ all_columns part.columns ++ codes " " ++ part.text ++ codes ") AS " ++ alias part.next;
-  columns = map (derived_column part.next) (range_with_len 0 (length part.columns));
-  next = part.next + 1;
+-- a text in parentheses as a derived source of so many columns, under this alias number
+abbrev pub enclosed : List ℕ → ℕ → ℕ → Part
+enclosed text width number = record {
+  text = codes "(" ++ text ++ codes ") AS " ++ alias number;
+  columns = map (derived_column number) (range_with_len 0 width);
+  next = number + 1;
 }
 
--- a tree as a source, with aliases from this number on
-abbrev pub source : TaskParts → Tree → ℕ → Part
-source task (base table) number = input_source task table number
-source task (filter child p) number = derived (from_where task.constants (source task child number) p)
+-- a part after `FROM`, selected whole
+abbrev pub arm : Part → List ℕ
+arm part = codes "SELECT " ++ all_columns part.columns ++ codes " " ++ part.text
 
--- a tree after `FROM`: a filter on top is a WHERE
+-- a part after `FROM`, made a derived source: selected whole, in parentheses, under the next alias
+abbrev pub derived : Part → Part
+derived part = enclosed (arm part) (length part.columns) part.next
+
+-- whether a tree is a join or a left join, which stands in parentheses on the right of another
+abbrev pub is_joined : Tree → Bool
+is_joined (t.base table) = false
+is_joined (t.filter child p) = false
+is_joined (t.join a b p) = true
+is_joined (t.left a b p) = true
+is_joined (t.group child keys agg) = false
+is_joined (t.union_all a b) = false
+is_joined (t.union a b) = false
+
+-- a text, in parentheses where it has to be
+abbrev pub in_parentheses : Bool → List ℕ → List ℕ
+in_parentheses nested text = if nested then codes "(" ++ text ++ codes ")" else text
+
+-- two sources joined by these words, with `ON` and a predicate over the columns of both
+abbrev pub join_source : List Value → List ℕ → Bool → Pred → Part → Part → Part
+join_source constants words nested p left right = record {
+  text = left.text ++ words ++ in_parentheses nested right.text ++ codes " ON " ++ pred_text constants (left.columns ++ right.columns) p;
+  columns = left.columns ++ right.columns;
+  next = right.next;
+}
+
+-- two parts, selected whole and joined by these words, as a derived source
+abbrev pub union_source : List ℕ → Part → Part → Part
+union_source words left right = enclosed (arm left ++ words ++ arm right) (length left.columns) right.next
+
+-- an aggregate over columns of these texts
+abbrev pub agg_text : List (List ℕ) → Agg → List ℕ
+agg_text columns CountAll = codes "COUNT(*)"
+agg_text columns (Count column) = codes "COUNT(" ++ text_at columns column ++ codes ")"
+agg_text columns (CountDistinct column) = codes "COUNT(DISTINCT " ++ text_at columns column ++ codes ")"
+agg_text columns (Sum column) = codes "SUM(" ++ text_at columns column ++ codes ")"
+agg_text columns (Min column) = codes "MIN(" ++ text_at columns column ++ codes ")"
+agg_text columns (Max column) = codes "MAX(" ++ text_at columns column ++ codes ")"
+
+-- `GROUP BY` and these texts, nothing where there are none
+abbrev pub group_by : List (List ℕ) → List ℕ
+group_by [] = []
+group_by (text ∷ texts) = codes " GROUP BY " ++ joined (codes ", ") (text ∷ texts)
+
+-- the groups of a part after `FROM`: the keys and the aggregate, selected
+abbrev pub group_text : Part → List ℕ → Agg → List ℕ
+group_text part keys agg =
+    codes "SELECT " ++ all_columns (map (text_at part.columns) keys ++ agg_text part.columns agg ∷ []) ++ codes " " ++ part.text ++ group_by (map (text_at part.columns) keys)
+
+-- the groups as a derived source
+abbrev pub group_source : List ℕ → Agg → Part → Part
+group_source keys agg part = enclosed (group_text part keys agg) (length keys + 1) part.next
+
+-- a source where it stands: among sources, or alone after `FROM`
+abbrev pub placed : Place → Part → Part
+placed Among source = source
+placed AfterFrom source = from_source source
+
+-- a part with `WHERE` where it stands: a derived source among sources, itself after `FROM`
+abbrev pub where_placed : Place → Part → Part
+where_placed Among part = derived part
+where_placed AfterFrom part = part
+
+-- what two parts make, of which the right one's aliases follow the left one's
+abbrev pub of_parts : (Part → Part → Part) → Part → (ℕ → Part) → Part
+of_parts f left right = f left (right left.next)
+
+-- a tree where it stands, with aliases from this number on
+abbrev pub printed : TaskParts → Tree → Place → ℕ → Part
+printed task (t.base table) place number = placed place (input_source task table number)
+printed task (t.filter child p) place number = where_placed place (from_where task.constants (printed task child Among number) p)
+printed task (t.join a b p) place number = placed place (of_parts (join_source task.constants (codes " JOIN ") (is_joined b) p) (printed task a Among number) (printed task b Among))
+printed task (t.left a b p) place number = placed place (of_parts (join_source task.constants (codes " LEFT JOIN ") (is_joined b) p) (printed task a Among number) (printed task b Among))
+printed task (t.group child keys agg) place number = placed place (group_source keys agg (printed task child AfterFrom number))
+printed task (t.union_all a b) place number = placed place (of_parts (union_source (codes " UNION ALL ")) (printed task a AfterFrom number) (printed task b AfterFrom))
+printed task (t.union a b) place number = placed place (of_parts (union_source (codes " UNION ")) (printed task a AfterFrom number) (printed task b AfterFrom))
+
+-- a tree after `FROM`, with aliases from this number on
 abbrev pub from : TaskParts → Tree → ℕ → Part
-from task (base table) number = from_source (input_source task table number)
-from task (filter child p) number = from_where task.constants (source task child number) p
+from task tree number = printed task tree AfterFrom number
 
 -- a picked column under an output column's name
 abbrev pub selected : List (List ℕ) → ℕ × Column → List ℕ

@@ -2,7 +2,9 @@
 #![tactic(auto)]
 
 mod derived_source;
+mod group_source;
 mod input;
+mod join_source;
 mod literal;
 mod part;
 mod predicate;

@@ -1,5 +1,5 @@
 ghost use Rattle.std.specs.Prelude.{◌≡◌, ◌++◌, ◌+◌, OnOk, IfOk};
-ghost use Rattle.sql_print.specs.Sql.{alias, column_name, from_source, from_where};
+ghost use Rattle.sql_print.specs.Sql.{alias, column_name, from_source, from_where, placed};
 
 use crate::predicate::push_pred;
 use crate::push::{push_bytes, push_number};
@@ -8,6 +8,13 @@ use sqlite_items::Items;
 use std::alloc::Global;
 use std::marker::Model;
 use value_core::{Bytes, OutOfMemory, Value};
+
+/// Where a part stands: among sources, or alone after `FROM`.
+#[derive(Clone, Copy, Debug, PartialEq, Eq)]
+pub enum Place {
+    Among,
+    AfterFrom,
+}
 
 /// A printed part: its text, the texts by which its columns are named, and the number of the next alias.
 #[derive(Debug, Drop)]
@@ -84,4 +91,14 @@ pub fn from_where(
         columns: source.columns,
         next: source.next,
     })
+}
+
+// A source where it stands.
+pub fn placed(alloc: Global, place: Place, source: Printed) -> Result<Printed, OutOfMemory>
+    ensures { IfOk result (λ part. part ≡ placed place source) }
+{
+    match place {
+        Place::Among => Ok(source),
+        Place::AfterFrom => from_source(alloc, source),
+    }
 }

@@ -1,30 +1,155 @@
 ghost use Rattle.std.specs.Prelude.{◌≡◌, IfOk};
 ghost use Rattle.query_core.specs.View.{tree};
-ghost use Rattle.sql_print.specs.Sql.{source, from};
+ghost use Rattle.sql_print.specs.Sql.{is_joined, placed, where_placed, from_where, join_source, union_source, group_source, input_source, printed, from};
 
-use crate::derived_source::derived;
+use crate::derived_source::{union_source, where_placed};
+use crate::group_source::group_source;
 use crate::input::input_source;
-use crate::part::{Printed, from_source, from_where};
-use query_core::Node;
+use crate::join_source::{is_joined, join_source};
+use crate::part::{Place, Printed, from_where, placed};
+use predicate_core::Pred;
+use query_core::{Agg, Node};
 use std::alloc::Global;
 use table_core::TaskParts;
 use value_core::OutOfMemory;
 
-// A tree as a source, with aliases from this number on.
-fn source(alloc: Global, task: &TaskParts, node: &Node, number: u64) -> Result<Printed, OutOfMemory>
-    ensures { IfOk result (λ part. part ≡ source task.now (tree node.now) number) }
+// An input where it stands.
+fn base_placed(
+    alloc: Global,
+    task: &TaskParts,
+    place: Place,
+    table: u32,
+    number: u64,
+) -> Result<Printed, OutOfMemory>
+    ensures { IfOk result (λ part. part ≡ placed place (input_source task.now table number)) }
+{
+    placed(alloc, place, input_source(alloc, task, table, number)?)
+}
+
+// A filter over a source where it stands.
+fn filter_placed(
+    alloc: Global,
+    task: &TaskParts,
+    place: Place,
+    source: Printed,
+    pred: &Pred,
+) -> Result<Printed, OutOfMemory>
+    ensures { IfOk result (λ part. part ≡ where_placed place (from_where task.now.constants source pred.now)) }
+{
+    let part = from_where(alloc, task.constants.as_slice(), source, pred)?;
+    where_placed(alloc, place, part)
+}
+
+// A join of two sources, by these words, where it stands; the right one is this node's.
+fn join_placed(
+    alloc: Global,
+    task: &TaskParts,
+    place: Place,
+    words: &[u8],
+    node: &Node,
+    pred: &Pred,
+    parts: (Printed, Printed),
+) -> Result<Printed, OutOfMemory>
+    ensures { IfOk result (λ part. part ≡ placed place (join_source task.now.constants words.now (is_joined (tree node.now)) pred.now parts.0 parts.1)) }
+{
+    let constants = task.constants.as_slice();
+    let (left, right) = parts;
+    let source = join_source(
+        alloc,
+        constants,
+        words,
+        is_joined(node),
+        pred,
+        &left,
+        &right,
+    )?;
+    placed(alloc, place, source)
+}
+
+// A union of two parts, by these words, where it stands.
+fn union_placed(
+    alloc: Global,
+    place: Place,
+    words: &[u8],
+    parts: (Printed, Printed),
+) -> Result<Printed, OutOfMemory>
+    ensures { IfOk result (λ part. part ≡ placed place (union_source words.now parts.0 parts.1)) }
+{
+    let (left, right) = parts;
+    placed(alloc, place, union_source(alloc, words, &left, &right)?)
+}
+
+// The groups of a part where they stand.
+fn group_placed(
+    alloc: Global,
+    place: Place,
+    keys: &[usize],
+    agg: &Agg,
+    part: Printed,
+) -> Result<Printed, OutOfMemory>
+    ensures { IfOk result (λ source. source ≡ placed place (group_source keys.now agg.now part)) }
+{
+    placed(alloc, place, group_source(alloc, keys, agg, &part)?)
+}
+
+// Two trees where they stand, the aliases of the second after those of the first.
+#[cycle(print)]
+fn both(
+    alloc: Global,
+    task: &TaskParts,
+    a: &Node,
+    b: &Node,
+    place: Place,
+    number: u64,
+) -> Result<(Printed, Printed), OutOfMemory>
+    ensures { IfOk result (λ parts. (parts.0 ≡ printed task.now (tree a.now) place number) × (parts.1 ≡ printed task.now (tree b.now) place (printed task.now (tree a.now) place number).next)) }
+{
+    let left = printed(alloc, task, a, place, number)?;
+    let right = printed(alloc, task, b, place, left.next)?;
+    Ok((left, right))
+}
+
+// A tree where it stands, with aliases from this number on.
+#[cycle(print)]
+fn printed(
+    alloc: Global,
+    task: &TaskParts,
+    node: &Node,
+    place: Place,
+    number: u64,
+) -> Result<Printed, OutOfMemory>
+    ensures { IfOk result (λ part. part ≡ printed task.now (tree node.now) place number) }
 {
     match node {
-        Node::Base(table) => input_source(alloc, task, *table, number),
+        Node::Base(table) => base_placed(alloc, task, place, *table, number),
         Node::Filter(child, pred) => {
-            let child = source(alloc, task, child.get(), number)?;
-            let part = from_where(alloc, task.constants.as_slice(), child, pred)?;
-            derived(alloc, &part)
+            let source = printed(alloc, task, child.get(), Place::Among, number)?;
+            filter_placed(alloc, task, place, source, pred)
+        }
+        Node::Join(a, b, pred) => {
+            let parts = both(alloc, task, a.get(), b.get(), Place::Among, number)?;
+            join_placed(alloc, task, place, b" JOIN ", b.get(), pred, parts)
+        }
+        Node::Left(a, b, pred) => {
+            let parts = both(alloc, task, a.get(), b.get(), Place::Among, number)?;
+            join_placed(alloc, task, place, b" LEFT JOIN ", b.get(), pred, parts)
+        }
+        Node::Group(child, keys, agg) => {
+            let part = printed(alloc, task, child.get(), Place::AfterFrom, number)?;
+            group_placed(alloc, place, keys.as_slice(), agg, part)
+        }
+        Node::UnionAll(a, b) => {
+            let parts = both(alloc, task, a.get(), b.get(), Place::AfterFrom, number)?;
+            union_placed(alloc, place, b" UNION ALL ", parts)
+        }
+        Node::Union(a, b) => {
+            let parts = both(alloc, task, a.get(), b.get(), Place::AfterFrom, number)?;
+            union_placed(alloc, place, b" UNION ", parts)
         }
     }
 }
 
-// A tree after `FROM`: a filter on top is a WHERE.
+// A tree after `FROM`, with aliases from this number on.
 pub fn from(
     alloc: Global,
     task: &TaskParts,
@@ -33,14 +158,5 @@ pub fn from(
 ) -> Result<Printed, OutOfMemory>
     ensures { IfOk result (λ part. part ≡ from task.now (tree node.now) number) }
 {
-    match node {
-        Node::Base(table) => {
-            let input = input_source(alloc, task, *table, number)?;
-            from_source(alloc, input)
-        }
-        Node::Filter(child, pred) => {
-            let child = source(alloc, task, child.get(), number)?;
-            from_where(alloc, task.constants.as_slice(), child, pred)
-        }
-    }
+    printed(alloc, task, node, Place::AfterFrom, number)
 }
