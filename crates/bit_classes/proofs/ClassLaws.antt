@@ -27,7 +27,7 @@ or_false : (b : Bool) → (b || false) ≡ b
 or_false true = refl
 or_false false = refl
 
-any-push : {X : Type 0} (test : X → Bool) (xs : List X) (y : X) → list_any test (xs ++ y ∷ []) ≡ (list_any test xs || test y)
+pub any-push : {X : Type 0} (test : X → Bool) (xs : List X) (y : X) → list_any test (xs ++ y ∷ []) ≡ (list_any test xs || test y)
 any-push test xs y = any-append test xs (y ∷ []) ∙ ap (λ r. list_any test xs || r) (or_false (test y))
 
 -- the first place in a list, by whether a front has one

@@ -1,11 +1,15 @@
 -- How classes grow, vector by vector.
-use Rattle.std.specs.Prelude.{◌≡◌, ℕ, ◌<◌, Bool, if◌then◌else◌, List, [], ◌∷◌, ◌++◌, length, fold, Result, MatchResult}
+use Rattle.std.specs.Prelude.{◌≡◌, ℕ, ◌+◌, ◌<◌, nat_le, Bool, if◌then◌else◌, List, [], ◌∷◌, ◌++◌, map, length, fold, Option, Some, None, option_map, IfSome, Result, MatchResult}
 use Rattle.std.specs.List.{list_any}
+use Rattle.predicate_core.specs.Atoms.{pairs, triples}
 use Rattle.bit_rows.specs.Bits.{same_bits}
 use Rattle.bit_classes.specs.declared.class.Class.{Class}
 use Rattle.bit_classes.specs.declared.class.ClassEnd.{ClassEnd}
 use Rattle.bit_classes.specs.declared.class.ClassEnd.TheVariants.{More}
+use Rattle.bit_classes.specs.declared.join.Join.{Join}
+use Rattle.bit_classes.specs.declared.join.Join.TheVariants.{And, Or}
 use Rattle.bit_classes.specs.Classes.{class_of}
+use Rattle.bit_classes.specs.Vectors.{joined}
 
 -- classes of vectors of one width that were found, and the most that may be found
 pub record Walk : Type 0 where
@@ -35,3 +39,37 @@ Sees old es new result =
     MatchResult result
     (λ _. new ≡ record old { classes = with_vectors old.classes es })
     (λ end. end ≡ More → old.limit < length (with_vectors old.classes es))
+
+-- vectors that are told, each with its number, where one that isn't told has a number too
+abbrev pub numbered : ℕ → List (Option (List Bool)) → List (ℕ × List Bool)
+numbered n [] = []
+numbered n (None ∷ vectors) = numbered (n + 1) vectors
+numbered n (Some v ∷ vectors) = (n, v) ∷ numbered (n + 1) vectors
+
+-- a vector that is told has this width
+abbrev pub HasWidth : ℕ → Option (List Bool) → Type 0
+HasWidth width told = IfSome told (λ v. length v ≡ width)
+
+-- of each vector whether it is new when they are seen in turn, and then the vector
+abbrev pub new_vectors : List Class → ℕ → List (List Bool) → List (Option (List Bool))
+new_vectors classes n [] = []
+new_vectors classes n (v ∷ vectors) = (if is_known classes v then None else Some v) ∷ new_vectors (with_vector classes (n, v)) (n + 1) vectors
+
+-- two vectors joined, where both are told
+abbrev pub joined_told : Join → Option (List Bool) → Option (List Bool) → Option (List Bool)
+joined_told join None b = None
+joined_told join (Some x) b = option_map (joined join x) b
+
+-- each two vectors of a list joined, where both are told
+abbrev pub told_pairs : Join → List (Option (List Bool)) → List (Option (List Bool))
+told_pairs join rows = map (λ p. joined_told join p.0 p.1) (pairs rows)
+
+-- each three vectors of a list joined, where all are told
+abbrev pub told_triples : Join → List (Option (List Bool)) → List (Option (List Bool))
+told_triples join rows = map (λ p. joined_told join (joined_told join p.0 p.1) p.2) (triples rows)
+
+-- the vectors of two or three rows that are told, as far as the bound goes, in the order of the predicates
+abbrev pub told_more : List (Option (List Bool)) → ℕ → List (Option (List Bool))
+told_more rows bound =
+    (if nat_le 2 bound then told_pairs And rows ++ told_pairs Or rows else [])
+    ++ (if nat_le 3 bound then told_triples And rows ++ told_triples Or rows else [])

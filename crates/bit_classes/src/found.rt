@@ -1,5 +1,5 @@
 ghost use Rattle.std.specs.Prelude.{◌≡◌, ◌≤◌, ◌∷◌, [], length, IfOk, IfErr};
-ghost use Rattle.bit_classes.specs.Walk.{Sees};
+ghost use Rattle.bit_classes.specs.Walk.{Sees, is_known};
 
 use crate::class::{Class, ClassEnd};
 use bit_rows::BitRow;
@@ -48,6 +48,14 @@ impl Found {
         ensures { result ≡ self.now.width }
     {
         self.width
+    }
+
+    /// Whether a row is that of a class.
+    #[tactic(auto, using(crate::proofs::WalkLaws::found_known))]
+    pub fn knows(&self, row: &BitRow) -> bool
+        ensures { result ≡ is_known self.now.classes row.now }
+    {
+        self.numbers.contains_key(row)
     }
 
     /// Sees a row under a number: where it is new, it is a class of that number.

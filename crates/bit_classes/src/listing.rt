@@ -1,10 +1,10 @@
-ghost use Rattle.std.specs.Prelude.{◌≡◌, ◌+◌, ◌<◌, ◌≤◌, ◌^◌, ◌++◌, length, IfOk, OnOk};
+ghost use Rattle.std.specs.Prelude.{◌≡◌, ◌+◌, ◌<◌, ◌≤◌, ◌^◌, ◌++◌, [], length, IfOk, OnOk};
 ghost use Rattle.std.specs.List.{All, enumerate_from};
 ghost use Rattle.bit_classes.specs.declared.class.ClassEnd.TheVariants.{More};
 ghost use Rattle.bit_classes.specs.declared.join.Join.TheVariants.{And, Or};
-ghost use Rattle.bit_classes.specs.Vectors.{joined_pairs, joined_triples, more_vectors, vectors};
+ghost use Rattle.bit_classes.specs.Vectors.{vectors};
 ghost use Rattle.bit_classes.specs.Classes.{classes_of};
-ghost use Rattle.bit_classes.specs.Walk.{Sees};
+ghost use Rattle.bit_classes.specs.Walk.{Sees, HasWidth, numbered, told_pairs, told_triples, told_more};
 
 use crate::class::{Class, ClassEnd};
 use crate::found::Found;
@@ -14,12 +14,12 @@ use bit_rows::BitRow;
 use predicate_core::{pair_count, triple_count};
 use std::alloc::Global;
 
-// Sees the vectors of the predicates of two atoms, under the numbers from one on.
-fn see_two(found: &mut Found, rows: &[BitRow], number: u64) -> Result<(), ClassEnd>
-    requires widths { All (λ row. length row ≡ found.old.width) rows.now }
+// Sees the vectors of the predicates of two atoms that are told, under the numbers from one on.
+fn see_two(found: &mut Found, rows: &[Option<BitRow>], number: u64) -> Result<(), ClassEnd>
+    requires widths { All (HasWidth found.old.width) rows.now }
     requires few { length rows.now ≤ 100000 }
     requires small { number ≤ 2 ^ 59 }
-    ensures { Sees found.old (enumerate_from number (joined_pairs And rows.now ++ joined_pairs Or rows.now)) found.new result }
+    ensures { Sees found.old (numbered number (told_pairs And rows.now ++ told_pairs Or rows.now)) found.new result }
 {
     see_pairs(found, Join::And, rows, number)?;
     see_pairs(
@@ -30,12 +30,12 @@ fn see_two(found: &mut Found, rows: &[BitRow], number: u64) -> Result<(), ClassE
     )
 }
 
-// Sees the vectors of the predicates of three atoms, under the numbers from one on.
-fn see_three(found: &mut Found, rows: &[BitRow], number: u64) -> Result<(), ClassEnd>
-    requires widths { All (λ row. length row ≡ found.old.width) rows.now }
+// Sees the vectors of the predicates of three atoms that are told, under the numbers from one on.
+fn see_three(found: &mut Found, rows: &[Option<BitRow>], number: u64) -> Result<(), ClassEnd>
+    requires widths { All (HasWidth found.old.width) rows.now }
     requires few { length rows.now ≤ 100000 }
     requires small { number ≤ 2 ^ 59 }
-    ensures { Sees found.old (enumerate_from number (joined_triples And rows.now ++ joined_triples Or rows.now)) found.new result }
+    ensures { Sees found.old (numbered number (told_triples And rows.now ++ told_triples Or rows.now)) found.new result }
 {
     see_triples(found, Join::And, rows, number)?;
     see_triples(
@@ -46,12 +46,17 @@ fn see_three(found: &mut Found, rows: &[BitRow], number: u64) -> Result<(), Clas
     )
 }
 
-// Sees the vectors of the predicates of two or three atoms, as far as the bound goes.
-fn see_more(found: &mut Found, rows: &[BitRow], bound: u32, number: u64) -> Result<(), ClassEnd>
-    requires widths { All (λ row. length row ≡ found.old.width) rows.now }
+// Sees the vectors of the predicates of two or three atoms that are told, as far as the bound goes.
+fn see_more(
+    found: &mut Found,
+    rows: &[Option<BitRow>],
+    bound: u32,
+    number: u64,
+) -> Result<(), ClassEnd>
+    requires widths { All (HasWidth found.old.width) rows.now }
     requires few { length rows.now ≤ 100000 }
     requires small { number ≤ 2 ^ 58 }
-    ensures { Sees found.old (enumerate_from number (more_vectors rows.now bound)) found.new result }
+    ensures { Sees found.old (numbered number (told_more rows.now bound)) found.new result }
 {
     if bound < 2 {
         return Ok(());
@@ -63,16 +68,18 @@ fn see_more(found: &mut Found, rows: &[BitRow], bound: u32, number: u64) -> Resu
     see_three(found, rows, number + 2 * pair_count(rows.len() as u64))
 }
 
-// Sees the vector of each predicate, under its number.
+// Sees the vector of each predicate, under its number. An atom whose vector isn't new gives nothing new with others either.
 fn see_all(found: &mut Found, rows: &[BitRow], bound: u32) -> Result<(), ClassEnd>
+    requires empty { found.old.classes ≡ [] }
     requires widths { All (λ row. length row ≡ found.old.width) rows.now }
     requires few { length rows.now ≤ 100000 }
     ensures { Sees found.old (enumerate_from 0 (vectors found.old.width rows.now bound)) found.new result }
 {
     let full = BitRow::full(found.alloc(), found.width())?;
     found.see(&full, 0)?;
-    see_rows(found, rows, 1)?;
-    see_more(found, rows, bound, 1 + rows.len() as u64)
+    let mut news = Vec::new(found.alloc());
+    see_rows(found, rows, 1, &mut news)?;
+    see_more(found, news.as_slice(), bound, 1 + rows.len() as u64)
 }
 
 /// Each vector that some predicate of up to `bound` atoms gives, once, with the number of the first predicate that gives it,

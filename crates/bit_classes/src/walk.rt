@@ -1,108 +1,220 @@
-ghost use Rattle.std.specs.Prelude.{◌≡◌, ◌+◌, ◌<◌, ◌≤◌, ◌^◌, length, map};
+ghost use Rattle.std.specs.Prelude.{◌≡◌, ◌+◌, ◌<◌, ◌≤◌, ◌^◌, ◌∷◌, ◌++◌, [], length, map, option_map, Some, None, IfSome, IfOk, IfErr, OnOk, if◌then◌else◌};
 ghost use Rattle.std.specs.List.{All, enumerate_from};
 ghost use Rattle.predicate_core.specs.Atoms.{pairs};
-ghost use Rattle.bit_classes.specs.Vectors.{joined, joined_pairs, joined_triples};
-ghost use Rattle.bit_classes.specs.Walk.{Sees};
+ghost use Rattle.bit_classes.specs.Vectors.{joined};
+ghost use Rattle.bit_classes.specs.Walk.{Sees, HasWidth, is_known, numbered, new_vectors, joined_told, told_pairs, told_triples};
 
 use crate::class::ClassEnd;
 use crate::found::Found;
 use crate::join::{Join, join_rows, set_joined};
 use bit_rows::BitRow;
 use predicate_core::pair_count;
+use std::alloc::Global;
+use value_core::OutOfMemory;
 
-/// Sees some rows, under the numbers from one on.
-pub fn see_rows(found: &mut Found, rows: &[BitRow], number: u64) -> Result<(), ClassEnd>
+// Appends a row, or that there is none.
+fn note(news: &mut Vec<Option<BitRow>>, row: Option<BitRow>) -> Result<(), OutOfMemory>
+    ensures { OnOk result (news.new.items ≡ news.old.items ++ row ∷ []) }
+{
+    news.push(row).map_err(|_| OutOfMemory)
+}
+
+// Sees a row, and notes it where it is new.
+fn see_new(
+    found: &mut Found,
+    row: &BitRow,
+    number: u64,
+    news: &mut Vec<Option<BitRow>>,
+) -> Result<(), ClassEnd>
+    ensures sees { Sees found.old ((number, row.now) ∷ []) found.new result }
+    ensures notes { OnOk result (news.new.items ≡ news.old.items ++ (if is_known found.old.classes row.now then None else Some row.now) ∷ []) }
+{
+    if found.knows(row) {
+        note(news, None)?;
+        return Ok(());
+    }
+    found.see(row, number)?;
+    note(news, Some(row.copy(found.alloc())?))?;
+    Ok(())
+}
+
+/// Sees some rows, under the numbers from one on, and notes those that are new.
+pub fn see_rows(
+    found: &mut Found,
+    rows: &[BitRow],
+    number: u64,
+    news: &mut Vec<Option<BitRow>>,
+) -> Result<(), ClassEnd>
     requires { number + length rows.now < 2 ^ 63 }
-    ensures { Sees found.old (enumerate_from number rows.now) found.new result }
+    ensures sees { Sees found.old (enumerate_from number rows.now) found.new result }
+    ensures notes { OnOk result (news.new.items ≡ news.old.items ++ new_vectors found.old.classes number rows.now) }
 {
     for (i, row) in rows.iter().enumerate() {
-        found.see(row, number + i as u64)?;
+        see_new(found, row, number + i as u64, news)?;
     }
     Ok(())
 }
 
-// Sees a row joined with each of some others, under the numbers from one on.
+// Two rows joined, where there is a second.
+fn join_told(
+    alloc: Global,
+    join: Join,
+    row: &BitRow,
+    other: &Option<BitRow>,
+) -> Result<Option<BitRow>, OutOfMemory>
+    requires { IfSome other.now (λ v. length row.now ≡ length v) }
+    ensures { IfOk result (λ both. both ≡ option_map (joined join row.now) other.now) }
+{
+    match other {
+        Some(other) => Ok(Some(join_rows(alloc, join, row, other)?)),
+        None => Ok(None),
+    }
+}
+
+// Sees a row joined with another, where there is one.
+#[tactic(auto, using(crate::proofs::SplitLaws::joined_length))]
+fn see_both(
+    found: &mut Found,
+    join: Join,
+    both: &mut BitRow,
+    row: &BitRow,
+    other: &Option<BitRow>,
+    number: u64,
+) -> Result<(), ClassEnd>
+    requires width { length both.old ≡ length row.now }
+    requires widths { IfSome other.now (λ v. length row.now ≡ length v) }
+    ensures sees { Sees found.old (numbered number (option_map (joined join row.now) other.now ∷ [])) found.new result }
+    ensures width { length both.new ≡ length row.now }
+{
+    match other {
+        Some(other) => {
+            set_joined(both, join, row, other);
+            found.see(both, number)
+        }
+        None => Ok(()),
+    }
+}
+
+// Sees a row joined with each of some others that there is, under the numbers from one on.
 fn see_joined(
     found: &mut Found,
     join: Join,
     row: &BitRow,
-    others: &[BitRow],
+    others: &[Option<BitRow>],
     number: u64,
 ) -> Result<(), ClassEnd>
     requires width { length row.now ≡ found.old.width }
-    requires widths { All (λ other. length other ≡ found.old.width) others.now }
+    requires widths { All (HasWidth found.old.width) others.now }
     requires small { number + length others.now < 2 ^ 63 }
-    ensures { Sees found.old (enumerate_from number (map (joined join row.now) others.now)) found.new result }
+    ensures { Sees found.old (numbered number (map (joined_told join (Some row.now)) others.now)) found.new result }
 {
     let mut both = row.copy(found.alloc())?;
     for (i, other) in others.iter().enumerate() {
-        set_joined(&mut both, join, row, other);
-        found.see(&both, number + i as u64)?;
+        see_both(found, join, &mut both, row, other, number + i as u64)?;
     }
     Ok(())
 }
 
-/// Sees each two of some rows joined, under the numbers from one on.
+// The same of a row that there may be.
+fn see_told(
+    found: &mut Found,
+    join: Join,
+    row: &Option<BitRow>,
+    others: &[Option<BitRow>],
+    number: u64,
+) -> Result<(), ClassEnd>
+    requires width { HasWidth found.old.width row.now }
+    requires widths { All (HasWidth found.old.width) others.now }
+    requires small { number + length others.now < 2 ^ 63 }
+    ensures { Sees found.old (numbered number (map (joined_told join row.now) others.now)) found.new result }
+{
+    match row {
+        Some(row) => see_joined(found, join, row, others, number),
+        None => Ok(()),
+    }
+}
+
+/// Sees each two of some rows joined, where there are both, under the numbers from one on.
 pub fn see_pairs(
     found: &mut Found,
     join: Join,
-    rows: &[BitRow],
+    rows: &[Option<BitRow>],
     number: u64,
 ) -> Result<(), ClassEnd>
-    requires widths { All (λ row. length row ≡ found.old.width) rows.now }
+    requires widths { All (HasWidth found.old.width) rows.now }
     requires few { length rows.now ≤ 100000 }
     requires small { number ≤ 2 ^ 60 }
-    ensures { Sees found.old (enumerate_from number (joined_pairs join rows.now)) found.new result }
+    ensures { Sees found.old (numbered number (told_pairs join rows.now)) found.new result }
 {
     let mut next = number;
     for i in 0..rows.len() {
         let others = &rows[i + 1..];
-        see_joined(found, join, &rows[i], others, next)?;
+        see_told(found, join, &rows[i], others, next)?;
         next += others.len() as u64;
     }
     Ok(())
 }
 
-// Sees a row joined with each two of some others, under the numbers from one on.
+// Sees a row joined with each two of some others, where there are both, under the numbers from one on.
 fn see_pairs_under(
     found: &mut Found,
     join: Join,
     first: &BitRow,
-    rows: &[BitRow],
+    rows: &[Option<BitRow>],
     number: u64,
 ) -> Result<(), ClassEnd>
     requires width { length first.now ≡ found.old.width }
-    requires widths { All (λ row. length row ≡ found.old.width) rows.now }
+    requires widths { All (HasWidth found.old.width) rows.now }
     requires few { length rows.now ≤ 100000 }
     requires small { number ≤ 2 ^ 61 }
-    ensures { Sees found.old (enumerate_from number (map (λ p. joined join (joined join first.now p.0) p.1) (pairs rows.now))) found.new result }
+    ensures { Sees found.old (numbered number (map (λ p. joined_told join (joined_told join (Some first.now) p.0) p.1) (pairs rows.now))) found.new result }
 {
     let mut next = number;
     for i in 0..rows.len() {
-        let both = join_rows(found.alloc(), join, first, &rows[i])?;
+        let both = join_told(found.alloc(), join, first, &rows[i])?;
         let others = &rows[i + 1..];
-        see_joined(found, join, &both, others, next)?;
+        see_told(found, join, &both, others, next)?;
         next += others.len() as u64;
     }
     Ok(())
 }
 
-/// Sees each three of some rows joined, under the numbers from one on.
+// The same of a row that there may be.
+fn see_pairs_told(
+    found: &mut Found,
+    join: Join,
+    first: &Option<BitRow>,
+    rows: &[Option<BitRow>],
+    number: u64,
+) -> Result<(), ClassEnd>
+    requires width { HasWidth found.old.width first.now }
+    requires widths { All (HasWidth found.old.width) rows.now }
+    requires few { length rows.now ≤ 100000 }
+    requires small { number ≤ 2 ^ 61 }
+    ensures { Sees found.old (numbered number (map (λ p. joined_told join (joined_told join first.now p.0) p.1) (pairs rows.now))) found.new result }
+{
+    match first {
+        Some(first) => see_pairs_under(found, join, first, rows, number),
+        None => Ok(()),
+    }
+}
+
+/// Sees each three of some rows joined, where there are all, under the numbers from one on.
 pub fn see_triples(
     found: &mut Found,
     join: Join,
-    rows: &[BitRow],
+    rows: &[Option<BitRow>],
     number: u64,
 ) -> Result<(), ClassEnd>
-    requires widths { All (λ row. length row ≡ found.old.width) rows.now }
+    requires widths { All (HasWidth found.old.width) rows.now }
     requires few { length rows.now ≤ 100000 }
     requires small { number ≤ 2 ^ 60 }
-    ensures { Sees found.old (enumerate_from number (joined_triples join rows.now)) found.new result }
+    ensures { Sees found.old (numbered number (told_triples join rows.now)) found.new result }
 {
     let mut next = number;
     for i in 0..rows.len() {
         let others = &rows[i + 1..];
-        see_pairs_under(found, join, &rows[i], others, next)?;
+        see_pairs_told(found, join, &rows[i], others, next)?;
         next += pair_count(others.len() as u64);
     }
     Ok(())

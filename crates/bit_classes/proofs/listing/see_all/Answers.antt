@@ -1,9 +1,11 @@
-use Rattle.std.proofs.Common.{◌≡◌, refl, ap, ◌∙◌, ◌+◌, true, [], ◌∷◌, ◌++◌, replicate, length, Ok, Err}
+use Rattle.std.proofs.Common.{◌≡◌, refl, ap, ◌∙◌, ◌+◌, true, [], ◌∷◌, ◌++◌, replicate, length, Ok, Err, arith}
 use Rattle.std.specs.List.{enumerate_from}
 use Rattle.std.proofs.lemmas.Result.{err_from_is_err_and}
 use Rattle.bit_classes.specs.Vectors.{more_vectors}
+use Rattle.bit_classes.specs.Walk.{Walk, new_vectors}
 use Rattle.bit_classes.proofs.WalkLaws.{sees_same, sees_then, sees_stopped}
-use Rattle.bit_classes.proofs.PartLaws.{sees_parts, sees_first_part}
+use Rattle.bit_classes.proofs.PartLaws.{rows_then, rows_stopped}
+use Rattle.bit_classes.proofs.ToldLaws.{more_seen, news_widths, news_length}
 use Rattle.bit_classes.proofs.listing.see_all.Goals as goal
 
 pub returns-in_err-see : goal.returns-in_err-see
@@ -23,9 +25,25 @@ returns-in_err-see_rows c =
     let full_is : c.in_ok-full.full ≡ replicate found.width true = c.in_ok-full.ensures ∙ ap (λ w. replicate w true) c.width.ensures in
     let end = c.in_err-see_rows.field-0.0 in
     let first = sees_same found c.see.new.self (Ok tt) _ _ (ap (λ v. (0, v) ∷ []) full_is) c.in_ok-see.ensures in
-    let second = sees_first_part c.see.new.self c.see_rows.new.found c.see_rows.new.found 1 c.args.rows.now more end c.in_err-see_rows.ensures in
+    let second = rows_stopped c.see.new.self c.see_rows.new.found c.see_rows.new.found 1 c.args.rows.now more end c.in_err-see_rows.ensures.sees in
     let p = err_from_is_err_and c.from_residual-in_err-see_rows.result c.from_residual-in_err-see_rows.ensures.1 in
     rw (p.1, p.2) (sees_then found c.see.new.self c.see_rows.new.found ((0, replicate found.width true) ∷ []) (enumerate_from 1 (c.args.rows.now ++ more)) (Err end) first second)
+
+pub see_more-requires-clause-widths : goal.see_more-requires-clause-widths
+see_more-requires-clause-widths c =
+    let found = c.args.found.now in
+    let rows = c.args.rows.now in
+    let classes = c.see.new.self.classes in
+    let are : c.as_slice.result.now ≡ new_vectors classes 1 rows = c.as_slice.ensures.value ∙ c.in_ok-see_rows.ensures.notes ∙ ap (λ ns. ns ++ new_vectors classes 1 rows) c.new-news.ensures.items in
+    let kept : c.see_rows.new.found.width ≡ found.width = ap (λ (w : Walk). w.width) c.in_ok-see_rows.ensures.sees ∙ ap (λ (w : Walk). w.width) c.in_ok-see.ensures in
+    rw kept (news_widths found.width classes rows c.as_slice.result.now are c.requires.widths)
+
+pub see_more-requires-clause-few : goal.see_more-requires-clause-few
+see_more-requires-clause-few c =
+    let rows = c.args.rows.now in
+    let classes = c.see.new.self.classes in
+    let are : c.as_slice.result.now ≡ new_vectors classes 1 rows = c.as_slice.ensures.value ∙ c.in_ok-see_rows.ensures.notes ∙ ap (λ ns. ns ++ new_vectors classes 1 rows) c.new-news.ensures.items in
+    omega (arith, news_length classes rows c.as_slice.result.now are, c.requires.few)
 
 pub returns : goal.returns
 returns c =
@@ -34,5 +52,8 @@ returns c =
     let more = more_vectors rows c.args.bound in
     let full_is : c.in_ok-full.full ≡ replicate found.width true = c.in_ok-full.ensures ∙ ap (λ w. replicate w true) c.width.ensures in
     let first = sees_same found c.see.new.self (Ok tt) _ _ (ap (λ v. (0, v) ∷ []) full_is) c.in_ok-see.ensures in
-    let second = sees_parts c.see.new.self c.see_rows.new.found c.see_more.new.found 1 (1 + length rows) rows more c.see_more.result refl c.in_ok-see_rows.ensures c.see_more.ensures in
+    let classes = c.see.new.self.classes in
+    let are : c.as_slice.result.now ≡ new_vectors classes 1 rows = c.as_slice.ensures.value ∙ c.in_ok-see_rows.ensures.notes ∙ ap (λ ns. ns ++ new_vectors classes 1 rows) c.new-news.ensures.items in
+    let last = more_seen found c.see.new.self c.see_rows.new.found c.see_more.new.found (1 + length rows) c.args.bound rows c.as_slice.result.now c.see_more.result c.requires.empty c.requires.widths first c.in_ok-see_rows.ensures.sees are c.see_more.ensures in
+    let second = rows_then c.see.new.self c.see_rows.new.found c.see_more.new.found 1 (1 + length rows) rows more c.see_more.result refl c.in_ok-see_rows.ensures.sees last in
     sees_then found c.see.new.self c.see_more.new.found ((0, replicate found.width true) ∷ []) (enumerate_from 1 (rows ++ more)) c.see_more.result first second
