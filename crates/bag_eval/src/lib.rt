@@ -25,4 +25,6 @@ pub use tree_rows::{answer, node_rows, query_rows, rows};
 pub use union::{append_rows, union_firsts};
 
 #[cfg(test)]
+mod table_tests;
+#[cfg(test)]
 mod tests;

@@ -21,7 +21,7 @@ fn value(alloc: Global, spelling: &str) -> Result<Value, Fail> {
     }
 }
 
-fn row(alloc: Global, spellings: &[&str]) -> Result<Tuple, Fail> {
+pub(crate) fn row(alloc: Global, spellings: &[&str]) -> Result<Tuple, Fail> {
     let mut cells = Vec::new(alloc);
     for spelling in spellings {
         cells.push(value(alloc, spelling)?)?;
@@ -38,7 +38,7 @@ fn rows(alloc: Global, table: &[&[&str]]) -> Result<Items<Tuple>, Fail> {
 }
 
 // Whether these are the rows of a table, in its order.
-fn are_rows(alloc: Global, found: &[Tuple], table: &[&[&str]]) -> Result<bool, Fail> {
+pub(crate) fn are_rows(alloc: Global, found: &[Tuple], table: &[&[&str]]) -> Result<bool, Fail> {
     let wanted = rows(alloc, table)?;
     Ok(
         found.len() == wanted.len()
