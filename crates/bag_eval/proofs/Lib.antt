@@ -1,2 +1,5 @@
 pub mod FirstLaws
+pub mod FitLaws
+pub mod GroupFitLaws
+pub mod TreeFitLaws
 pub mod ValueLaws

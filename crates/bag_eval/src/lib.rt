@@ -2,20 +2,29 @@
 #![tactic(auto)]
 
 mod cells;
+mod eval;
 mod filter;
 mod group;
 mod join;
 mod output;
+mod result;
 mod select;
+mod steps;
+mod tree_rows;
 mod union;
 mod values;
 
+pub use eval::Eval;
 pub use filter::{keep_rows, keeps_all_rows, keeps_same_rows};
 pub use group::group_tuples;
 pub use join::{cross_rows, join_pairs, left_join_pairs};
 pub use output::gives_rows;
 pub use select::{first_rows, has_double_selected, select_rows};
+pub use steps::{filter_rows, group_rows, join_rows, left_rows, project, union_rows};
+pub use tree_rows::{answer, node_rows, query_rows, rows};
 pub use union::{append_rows, union_firsts};
 
+#[cfg(test)]
+mod table_tests;
 #[cfg(test)]
 mod tests;

@@ -18,6 +18,15 @@ fn push_rows(alloc: Global, out: &mut Items<Tuple>, rows: &[Tuple]) -> Result<()
     Ok(())
 }
 
+// Copies of these rows.
+pub(crate) fn copy_rows(alloc: Global, rows: &[Tuple]) -> Result<Items<Tuple>, OutOfMemory>
+    ensures { IfOk result (λ out. out ≡ rows.now) }
+{
+    let mut out = Items::new(alloc);
+    push_rows(alloc, &mut out, rows)?;
+    Ok(out)
+}
+
 /// The left rows, and then the right rows.
 pub fn append_rows(
     alloc: Global,
