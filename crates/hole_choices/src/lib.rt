@@ -4,3 +4,6 @@
 mod choice;
 
 pub use choice::{Choice, choices};
+
+#[cfg(test)]
+mod tests;

@@ -11,3 +11,6 @@ mod roots;
 mod search;
 
 pub use search::{few, plain};
+
+#[cfg(test)]
+mod tests;

@@ -1,6 +1,4 @@
-ghost use Rattle.std.specs.Prelude.{◌≡◌, IfOk, []};
-
-use crate::{Ranked, before, key, key_order, pred_number, sort};
+use crate::{Ranked, before, key, key_order, sort};
 use predicate_core::{Atom, Pred};
 use query_core::{Node, Query};
 use sqlite_items::{Boxed, Items};
@@ -11,7 +9,6 @@ use value_core::{CmpOp, Value, Word};
 
 // The parts of a task without inputs, so that each hole has one predicate, Always.
 fn parts(alloc: Global) -> Result<TaskParts, Fail>
-    ensures { IfOk result (λ parts. (parts.inputs ≡ []) × (parts.atoms ≡ 1)) }
 {
     let mut constants = Items::new(alloc);
     constants.push(Value::Int(7))?;
@@ -46,7 +43,7 @@ fn kept(alloc: Global, skeleton: u32, pred: Pred, distinct: bool) -> Result<Rank
         map: Items::from_slice(alloc, &[0])?,
         distinct,
     };
-    let number = pred_number(&[Pred::Always], &pred);
+    let number = if pred == Pred::Always { 0 } else { 1 };
     let key = key(alloc, &parts(alloc)?, skeleton, &query, &[number])?;
     Ok(Ranked { key, query })
 }
@@ -88,15 +85,6 @@ fn sorts_answers(rt: HostRuntime) -> Result<(), Fail> {
             matches!(answer.query.body, Node::Base(table) if table == want),
             "{want}"
         );
-    }
-    let preds = [
-        Pred::Always,
-        Pred::One(Atom::IsNull(0)),
-        Pred::One(Atom::NotNull(0)),
-    ];
-    for (at, pred) in preds.iter().enumerate() {
-        assert_eq!(rt; pred_number(&preds, pred), at);
-        assert_eq!(rt; pred_number(&preds[..at], pred), at);
     }
     Ok(())
 }

@@ -12,3 +12,6 @@ pub use fault::ListFault;
 pub use levels::skeletons;
 pub use pairing::Pairing;
 pub use skeleton::Skeleton;
+
+#[cfg(test)]
+mod tests;

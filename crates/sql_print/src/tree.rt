@@ -1,4 +1,4 @@
-ghost use Rattle.std.specs.Prelude.{◌≡◌, IfOk};
+ghost use Rattle.std.specs.Prelude.{◌≡◌, IfOk, codes};
 ghost use Rattle.query_core.specs.View.{tree};
 ghost use Rattle.sql_print.specs.Sql.{is_joined, placed, where_placed, from_where, join_source, union_source, group_source, input_source, printed, from};
 
@@ -48,12 +48,12 @@ fn join_placed(
     words: &[u8],
     node: &Node,
     pred: &Pred,
-    parts: (Printed, Printed),
+    left: Printed,
+    right: Printed,
 ) -> Result<Printed, OutOfMemory>
-    ensures { IfOk result (λ part. part ≡ placed place (join_source task.now.constants words.now (is_joined (tree node.now)) pred.now parts.0 parts.1)) }
+    ensures { IfOk result (λ part. part ≡ placed place (join_source task.now.constants words.now (is_joined (tree node.now)) pred.now left right)) }
 {
     let constants = task.constants.as_slice();
-    let (left, right) = parts;
     let source = join_source(
         alloc,
         constants,
@@ -71,11 +71,11 @@ fn union_placed(
     alloc: Global,
     place: Place,
     words: &[u8],
-    parts: (Printed, Printed),
+    left: Printed,
+    right: Printed,
 ) -> Result<Printed, OutOfMemory>
-    ensures { IfOk result (λ part. part ≡ placed place (union_source words.now parts.0 parts.1)) }
+    ensures { IfOk result (λ part. part ≡ placed place (union_source words.now left right)) }
 {
-    let (left, right) = parts;
     placed(alloc, place, union_source(alloc, words, &left, &right)?)
 }
 
@@ -92,25 +92,21 @@ fn group_placed(
     placed(alloc, place, group_source(alloc, keys, agg, &part)?)
 }
 
-// Two trees where they stand, the aliases of the second after those of the first.
-#[cycle(print)]
-fn both(
-    alloc: Global,
-    task: &TaskParts,
-    a: &Node,
-    b: &Node,
-    place: Place,
-    number: u64,
-) -> Result<(Printed, Printed), OutOfMemory>
-    ensures { IfOk result (λ parts. (parts.0 ≡ printed task.now (tree a.now) place number) × (parts.1 ≡ printed task.now (tree b.now) place (printed task.now (tree a.now) place number).next)) }
+// The words of a left join.
+fn left_join_words() -> &'static [u8]
+    ensures { result.now ≡ codes " LEFT JOIN " }
 {
-    let left = printed(alloc, task, a, place, number)?;
-    let right = printed(alloc, task, b, place, left.next)?;
-    Ok((left, right))
+    b" LEFT JOIN "
+}
+
+// The words of a union that keeps all copies.
+fn union_all_words() -> &'static [u8]
+    ensures { result.now ≡ codes " UNION ALL " }
+{
+    b" UNION ALL "
 }
 
 // A tree where it stands, with aliases from this number on.
-#[cycle(print)]
 fn printed(
     alloc: Global,
     task: &TaskParts,
@@ -127,24 +123,28 @@ fn printed(
             filter_placed(alloc, task, place, source, pred)
         }
         Node::Join(a, b, pred) => {
-            let parts = both(alloc, task, a.get(), b.get(), Place::Among, number)?;
-            join_placed(alloc, task, place, b" JOIN ", b.get(), pred, parts)
+            let left = printed(alloc, task, a.get(), Place::Among, number)?;
+            let right = printed(alloc, task, b.get(), Place::Among, left.next)?;
+            join_placed(alloc, task, place, b" JOIN ", b.get(), pred, left, right)
         }
         Node::Left(a, b, pred) => {
-            let parts = both(alloc, task, a.get(), b.get(), Place::Among, number)?;
-            join_placed(alloc, task, place, b" LEFT JOIN ", b.get(), pred, parts)
+            let left = printed(alloc, task, a.get(), Place::Among, number)?;
+            let right = printed(alloc, task, b.get(), Place::Among, left.next)?;
+            join_placed(alloc, task, place, left_join_words(), b.get(), pred, left, right)
         }
         Node::Group(child, keys, agg) => {
             let part = printed(alloc, task, child.get(), Place::AfterFrom, number)?;
             group_placed(alloc, place, keys.as_slice(), agg, part)
         }
         Node::UnionAll(a, b) => {
-            let parts = both(alloc, task, a.get(), b.get(), Place::AfterFrom, number)?;
-            union_placed(alloc, place, b" UNION ALL ", parts)
+            let left = printed(alloc, task, a.get(), Place::AfterFrom, number)?;
+            let right = printed(alloc, task, b.get(), Place::AfterFrom, left.next)?;
+            union_placed(alloc, place, union_all_words(), left, right)
         }
         Node::Union(a, b) => {
-            let parts = both(alloc, task, a.get(), b.get(), Place::AfterFrom, number)?;
-            union_placed(alloc, place, b" UNION ", parts)
+            let left = printed(alloc, task, a.get(), Place::AfterFrom, number)?;
+            let right = printed(alloc, task, b.get(), Place::AfterFrom, left.next)?;
+            union_placed(alloc, place, b" UNION ", left, right)
         }
     }
 }
