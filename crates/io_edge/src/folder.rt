@@ -1,4 +1,4 @@
-ghost use Rattle.std.specs.Prelude.{◌≡◌, ◌≤◌, ◌<◌, ℕ, List, Option, length, Err, IsOk, IfOk, IfSome};
+ghost use Rattle.std.specs.Prelude.{◌≡◌, ◌≢◌, ◌≤◌, ◌<◌, ℕ, List, Option, length, Err, IsOk, IfOk, IfSome};
 ghost use Rattle.io_edge.specs.declared.fault.FolderFault.TheVariants.{Failed, TooLong};
 ghost use Rattle.io_edge.specs.Rose.{Rose};
 
@@ -20,5 +20,6 @@ pub trait Folder {
         ensures short { IfOk result (λ v. length v.items ≤ limit) }
         ensures same { (n : List ℕ) → told self.new n ≡ told self.old n }
         ensures kept { (n : List ℕ) → faults self.old n ≤ faults self.new n }
-        ensures failed { result ≡ Err Failed → Rose (faults self.old name.now) (faults self.new name.now) };
+        ensures failed { result ≡ Err Failed → Rose (faults self.old name.now) (faults self.new name.now) }
+        ensures still { result ≢ Err Failed → (n : List ℕ) → faults self.new n ≡ faults self.old n };
 }

@@ -1,4 +1,4 @@
-ghost use Rattle.std.specs.Prelude.{◌≡◌, ◌↔◌, replicate, ◌≤◌, ◌<◌, ◌+◌, ℕ, List, IsTrue, true, false, Some, MatchOption, length, Err, IsOk, IfOk, IfSome};
+ghost use Rattle.std.specs.Prelude.{◌≡◌, ◌≢◌, ◌↔◌, replicate, ◌≤◌, ◌<◌, ◌+◌, ℕ, List, IsTrue, true, false, Some, MatchOption, length, Err, IsOk, IfOk, IfSome};
 ghost use Rattle.io_edge.specs.declared.fault.FolderFault.TheVariants.{Failed, TooLong};
 ghost use Rattle.io_edge.specs.Rose.{Rose, next};
 ghost use Rattle.io_edge.specs.Files.{bytes_of};
@@ -92,6 +92,7 @@ impl Folder for MemFolder {
         ensures same { (n : List ℕ) → bytes_of self.new.files n ≡ bytes_of self.old.files n }
         ensures kept { (n : List ℕ) → count_of self.old n ≤ count_of self.new n }
         ensures failed { result ≡ Err Failed → Rose (count_of self.old name.now) (count_of self.new name.now) }
+        ensures still { result ≢ Err Failed → (n : List ℕ) → count_of self.new n ≡ count_of self.old n }
         ensures fails { (result ≡ Err Failed) ↔ IsTrue (read_fails self.old name.now) }
         ensures after { self.new ≡ after_read self.old name.now }
     {

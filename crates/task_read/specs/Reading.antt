@@ -20,3 +20,10 @@ abbrev pub IfReadFault : TaskEnd → (List ℕ → Type 0) → Type 0
 IfReadFault (ReadFault file) P = P file
 IfReadFault WrongForm P = Unit {0}
 IfReadFault OutOfMemory P = Unit {0}
+
+-- a fact of each answer but that a file couldn't be read
+abbrev pub UnlessReadFault : {B : Type 0} → Result B TaskEnd → Type 0 → Type 0
+UnlessReadFault (Ok x) P = P
+UnlessReadFault (Err (ReadFault file)) P = Unit {0}
+UnlessReadFault (Err WrongForm) P = P
+UnlessReadFault (Err OutOfMemory) P = P

@@ -1,6 +1,6 @@
 ghost use Rattle.std.specs.Prelude.{◌≡◌, ◌≤◌, ℕ, List, IfErr};
 ghost use Rattle.io_edge.specs.Rose.{Rose};
-ghost use Rattle.task_read.specs.Reading.{Reads, IfReadFault};
+ghost use Rattle.task_read.specs.Reading.{Reads, IfReadFault, UnlessReadFault};
 ghost use Rattle.task_read.specs.Task.{bytes_told};
 
 use crate::fault::TaskEnd;
@@ -17,6 +17,7 @@ pub fn read_file<F: Folder>(alloc: Global, folder: &mut F, name: &Bytes) -> Resu
     ensures read { IfErr result (λ end. IfReadFault end (λ file. (file ≡ name.now) × Rose (F.faults folder.old file) (F.faults folder.new file))) }
     ensures same { (n : List ℕ) → F.told folder.new n ≡ F.told folder.old n }
     ensures kept { (n : List ℕ) → F.faults folder.old n ≤ F.faults folder.new n }
+    ensures still { UnlessReadFault result ((n : List ℕ) → F.faults folder.new n ≡ F.faults folder.old n) }
 {
     // The name is copied before the read, so that a failed read can be answered without memory.
     let file = Bytes::of(alloc, name.as_slice())?;

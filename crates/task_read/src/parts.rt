@@ -1,6 +1,6 @@
 ghost use Rattle.std.specs.Prelude.{◌≡◌, ◌≤◌, ℕ, List, IfErr, IfOk};
 ghost use Rattle.io_edge.specs.Rose.{Rose};
-ghost use Rattle.task_read.specs.Reading.{Reads, IfReadFault};
+ghost use Rattle.task_read.specs.Reading.{Reads, IfReadFault, UnlessReadFault};
 ghost use Rattle.task_read.specs.Task.{output_name, parts_told, IsReadAsTable};
 
 use crate::fault::TaskEnd;
@@ -33,6 +33,7 @@ pub fn read_parts<F: Folder>(
     ensures read { IfErr result (λ end. IfReadFault end (λ f. IsReadAsTable (F.told folder.old) plan f × Rose (F.faults folder.old f) (F.faults folder.new f))) }
     ensures same { (n : List ℕ) → F.told folder.new n ≡ F.told folder.old n }
     ensures kept { (n : List ℕ) → F.faults folder.old n ≤ F.faults folder.new n }
+    ensures still { UnlessReadFault result ((n : List ℕ) → F.faults folder.new n ≡ F.faults folder.old n) }
 {
     let mut inputs = Items::new(alloc);
     read_inputs(alloc, folder, plan.inputs.as_slice(), &mut inputs)?;

@@ -1,7 +1,7 @@
 ghost use Rattle.std.specs.Prelude.{◌≡◌, ◌≤◌, ◌++◌, ℕ, List, IfErr, IfOk, MatchResult};
 ghost use Rattle.io_edge.specs.Rose.{Rose};
 ghost use Rattle.task_read.specs.Told.{WhenReady};
-ghost use Rattle.task_read.specs.Reading.{Reads, Refuses, IfReadFault};
+ghost use Rattle.task_read.specs.Reading.{Reads, Refuses, IfReadFault, UnlessReadFault};
 ghost use Rattle.task_read.specs.Task.{table_told, inputs_told, IsReadAsInput};
 
 use crate::fault::TaskEnd;
@@ -27,6 +27,7 @@ pub fn read_table_file<F: Folder>(
     ensures read { IfErr result (λ end. IfReadFault end (λ f. (f ≡ file.now) × Rose (F.faults folder.old f) (F.faults folder.new f))) }
     ensures same { (n : List ℕ) → F.told folder.new n ≡ F.told folder.old n }
     ensures kept { (n : List ℕ) → F.faults folder.old n ≤ F.faults folder.new n }
+    ensures still { UnlessReadFault result ((n : List ℕ) → F.faults folder.new n ≡ F.faults folder.old n) }
 {
     let bytes = read_file(alloc, folder, file)?;
     match read_table(alloc, name, widest, longest, bytes.as_slice())? {
@@ -46,6 +47,7 @@ pub fn read_inputs<F: Folder>(
     ensures read { IfErr result (λ end. IfReadFault end (λ f. IsReadAsInput (F.told folder.old) inputs.now f × Rose (F.faults folder.old f) (F.faults folder.new f))) }
     ensures same { (n : List ℕ) → F.told folder.new n ≡ F.told folder.old n }
     ensures kept { (n : List ℕ) → F.faults folder.old n ≤ F.faults folder.new n }
+    ensures still { UnlessReadFault result ((n : List ℕ) → F.faults folder.new n ≡ F.faults folder.old n) }
 {
     match inputs.split_first() {
         None => Ok(()),

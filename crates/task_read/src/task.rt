@@ -1,7 +1,7 @@
 ghost use Rattle.std.specs.Prelude.{◌≡◌, ◌≤◌, ℕ, List, length, true, IfErr, IfOk};
 ghost use Rattle.io_edge.specs.Rose.{Rose};
 ghost use Rattle.task_read.specs.Told.{found};
-ghost use Rattle.task_read.specs.Reading.{Reads, IfReadFault};
+ghost use Rattle.task_read.specs.Reading.{Reads, IfReadFault, UnlessReadFault};
 ghost use Rattle.task_read.specs.Task.{plan_told, task_told, is_built, built, IsRead};
 
 use crate::fault::TaskEnd;
@@ -19,6 +19,7 @@ fn read_plan<F: Folder>(alloc: Global, folder: &mut F, name: &Bytes) -> Result<T
     ensures read { IfErr result (λ end. IfReadFault end (λ f. (f ≡ name.now) × Rose (F.faults folder.old f) (F.faults folder.new f))) }
     ensures same { (n : List ℕ) → F.told folder.new n ≡ F.told folder.old n }
     ensures kept { (n : List ℕ) → F.faults folder.old n ≤ F.faults folder.new n }
+    ensures still { UnlessReadFault result ((n : List ℕ) → F.faults folder.new n ≡ F.faults folder.old n) }
 {
     let bytes = read_file(alloc, folder, name)?;
     match read_task_file(alloc, bytes.as_slice())? {
@@ -61,6 +62,7 @@ pub fn read_task<F: Folder>(alloc: Global, folder: &mut F, name: &Bytes) -> Resu
     ensures read { IfErr result (λ end. IfReadFault end (λ f. IsRead (F.told folder.old) name.now f × Rose (F.faults folder.old f) (F.faults folder.new f))) }
     ensures same { (n : List ℕ) → F.told folder.new n ≡ F.told folder.old n }
     ensures kept { (n : List ℕ) → F.faults folder.old n ≤ F.faults folder.new n }
+    ensures still { UnlessReadFault result ((n : List ℕ) → F.faults folder.new n ≡ F.faults folder.old n) }
 {
     let plan = read_plan(alloc, folder, name)?;
     match read_parts(alloc, folder, plan) {

@@ -29,6 +29,16 @@ IsReadIn told words = IsReadIn_file told (command words)
 abbrev pub NoneUnread : (List ℕ → Option (List ℕ)) → (List ℕ → ℕ) → (List ℕ → ℕ) → List (List ℕ) → Type 0
 NoneUnread told before now words = (file : List ℕ) → IsReadIn told words file → ¬ (Rose (before file) (now file))
 
+-- a fact of each end but that a file couldn't be read
+abbrev pub UnlessReadFault : End → Type 0 → Type 0
+UnlessReadFault (Listed count) P = P
+UnlessReadFault Empty P = P
+UnlessReadFault Usage P = P
+UnlessReadFault (ReadFault file) P = Unit {0}
+UnlessReadFault WriteFault P = P
+UnlessReadFault OutOfMemory P = P
+UnlessReadFault NotYet P = P
+
 -- the ends at which nothing was written to the output
 abbrev pub IsUnwritten : End → Type 0
 IsUnwritten (Listed count) = ⊥

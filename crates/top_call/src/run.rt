@@ -7,7 +7,7 @@ ghost use Rattle.task_read.specs.Told.{WhenReady, MayRefuse};
 ghost use Rattle.top_call.specs.Command.{command};
 ghost use Rattle.top_call.specs.Line.{line};
 ghost use Rattle.top_call.specs.Listing.{Runs, RunsWords};
-ghost use Rattle.top_call.specs.Promise.{asked, IsReadIn, NoneUnread, IsUnwritten, IfReady, IsRefused, AnswersTask};
+ghost use Rattle.top_call.specs.Promise.{asked, IsReadIn, NoneUnread, UnlessReadFault, IsUnwritten, IfReady, IsRefused, AnswersTask};
 ghost use Rattle.top_call.specs.declared.end.End.TheVariants.{Listed, Empty, Usage, ReadFault, WriteFault, OutOfMemory, NotYet};
 
 use crate::command::command;
@@ -22,7 +22,8 @@ use value_core::Bytes;
 
 // Reads the task of a file, lists its answers and writes its text.
 fn run_file<F: Folder, K: Sink>(alloc: Global, file: &Bytes, folder: &mut F, out: &mut K) -> End
-    ensures { Runs (F.told folder.old) (F.faults folder.old) (F.faults folder.new) file.now (K.written out.old) (K.written out.new) (K.faults out.old) (K.faults out.new) result }
+    ensures runs { Runs (F.told folder.old) (F.faults folder.old) (F.faults folder.new) file.now (K.written out.old) (K.written out.new) (K.faults out.old) (K.faults out.new) result }
+    ensures still { UnlessReadFault result ((n : List ℕ) → F.faults folder.new n ≡ F.faults folder.old n) }
 {
     match read_task(alloc, folder, file) {
         Ok(task) => list(alloc, &task, out),
@@ -34,7 +35,8 @@ fn run_file<F: Folder, K: Sink>(alloc: Global, file: &Bytes, folder: &mut F, out
 
 // Runs what the words ask for.
 fn run<F: Folder, K: Sink>(alloc: Global, words: &[Bytes], folder: &mut F, out: &mut K) -> End
-    ensures { RunsWords (F.told folder.old) (F.faults folder.old) (F.faults folder.new) (command words.now) (K.written out.old) (K.written out.new) (K.faults out.old) (K.faults out.new) result }
+    ensures runs { RunsWords (F.told folder.old) (F.faults folder.old) (F.faults folder.new) (command words.now) (K.written out.old) (K.written out.new) (K.faults out.old) (K.faults out.new) result }
+    ensures still { UnlessReadFault result ((n : List ℕ) → F.faults folder.new n ≡ F.faults folder.old n) }
 {
     match command(words) {
         None => End::Usage,
@@ -64,6 +66,9 @@ pub fn scythe<R: Threads + Sync, F: Folder, K: Sink, E: Sink, G: Gate + Sync>(
     ensures read { (file : List ℕ) → result ≡ ReadFault file → IsReadIn (F.told folder.old) words.now file × Rose (F.faults folder.old file) (F.faults folder.new file) }
     ensures write { result ≡ WriteFault → Rose (K.faults out.old) (K.faults out.new) }
     ensures write_last { result ≡ WriteFault → ¬ (IsRefused (asked (F.told folder.old) words.now)) }
+
+    // At every end but `ReadFault`, also where a write failed, no read had failed.
+    ensures still { UnlessReadFault result ((file : List ℕ) → F.faults folder.new file ≡ F.faults folder.old file) }
 
     // Where no read failed, a task is answered unless a write failed or memory ran out, and what isn't a task is refused.
     ensures complete { NoneUnread (F.told folder.old) (F.faults folder.old) (F.faults folder.new) words.now → ¬ Rose (K.faults out.old) (K.faults out.new) → IfReady (asked (F.told folder.old) words.now) (λ task. AnswersTask task result) }
