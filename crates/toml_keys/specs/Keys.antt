@@ -64,7 +64,11 @@ abbrev pub read_or : {A : Type 0} → A → (Data → Option A) → Option Data 
 read_or default read None = Some default
 read_or default read (Some value) = read value
 
--- the key is one of these
+-- a whole number at a key, or the default where the key is absent
+unfoldable pub number_or : List ℕ → ℕ → ℕ → ℕ → Members → Option ℕ
+number_or key default low high members = read_or default (number_of low high) (get_member key members)
+
+-- whether a key is one of these
 abbrev pub is_among : List (List ℕ) → List ℕ → Bool
 is_among allowed key = list_any (bytes_eq key) allowed
 
