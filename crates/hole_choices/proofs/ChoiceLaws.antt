@@ -62,19 +62,19 @@ find_at : {X : Type 0} (t : X → Bool) (xs : List X) → find t xs ≡ slice_ge
 find_at t [] = refl
 find_at t (x ∷ xs) = here (t x) refl (find_at t xs)
   where
-  here : (b : Bool) → t x ≡ b → find t xs ≡ slice_get xs (position_or_len t xs) → find t (x ∷ xs) ≡ slice_get (x ∷ xs) (position_or_len t (x ∷ xs))
-  here true is rest = rw is refl
-  here false is rest = rw is (rest ∙ sym (get_next x xs (position_or_len t xs)))
+    here : (b : Bool) → t x ≡ b → find t xs ≡ slice_get xs (position_or_len t xs) → find t (x ∷ xs) ≡ slice_get (x ∷ xs) (position_or_len t (x ∷ xs))
+    here true is rest = rw is refl
+    here false is rest = rw is (rest ∙ sym (get_next x xs (position_or_len t xs)))
 
 -- where an element passes, one is found
 finds : {X : Type 0} (t : X → Bool) (xs : List X) (n : ℕ) (x : X) → slice_get xs n ≡ Some x → t x ≡ true → find t xs ≡ None → ⊥
 finds t [] n x there passes none = cc
 finds t (y ∷ ys) n x there passes none = here n (t y) there refl (λ m e f. finds t ys m x e passes f)
   where
-  here : (k : ℕ) (b : Bool) → slice_get (y ∷ ys) k ≡ Some x → t y ≡ b → ((m : ℕ) → slice_get ys m ≡ Some x → find t ys ≡ None → ⊥) → ⊥
-  here k true e is rest = let found : Some y ≡ None = rw is at none in cc
-  here zero false e is rest = let same : y ≡ x = cc in absurd (false≢true (sym is ∙ ap t same ∙ passes))
-  here (suc k) false e is rest = rest k e (rw is at none)
+    here : (k : ℕ) (b : Bool) → slice_get (y ∷ ys) k ≡ Some x → t y ≡ b → ((m : ℕ) → slice_get ys m ≡ Some x → find t ys ≡ None → ⊥) → ⊥
+    here k true e is rest = let found : Some y ≡ None = rw is at none in cc
+    here zero false e is rest = let same : y ≡ x = cc in absurd (false≢true (sym is ∙ ap t same ∙ passes))
+    here (suc k) false e is rest = rest k e (rw is at none)
 
 -- each predicate of a list stands there at its number
 abbrev Numbered : List Pred → Type 0
@@ -95,22 +95,23 @@ first_at constants candidates preds n p numbered there =
       | inr other ↦ rw other (sym (not_first (find (alike constants candidates p) preds) refl other))
     ]
   where
-  not_same : (q : Pred) → find (alike constants candidates p) preds ≡ Some q → (position_or_len (alike constants candidates p) preds == n) ≡ false → (b : Bool) → same_pred q p ≡ b → b ≡ false
-  not_same q is other true same =
-      let e : q ≡ p = (same_pred_decides q p).0 same in
-      let at = numbered (position_or_len (alike constants candidates p) preds) p (sym (find_at (alike constants candidates p) preds) ∙ is ∙ ap Some e) in
-      absurd (false≢true (sym other ∙ eq-eqb _ _ (sym at ∙ numbered n p there)))
-  not_same q is other false same = refl
-  not_first : (o : Option Pred) → find (alike constants candidates p) preds ≡ o → (position_or_len (alike constants candidates p) preds == n) ≡ false → is_first_alike constants candidates preds p ≡ false
-  not_first None is other = absurd (finds (alike constants candidates p) preds n p there (alike_self constants candidates p) is)
-  not_first (Some q) is other = rw is (not_same q is other (same_pred q p) refl)
+    not_same : (q : Pred) → find (alike constants candidates p) preds ≡ Some q → (position_or_len (alike constants candidates p) preds == n) ≡ false → (b : Bool) → same_pred q p ≡ b → b ≡ false
+    not_same q is other true same =
+        let e : q ≡ p = (same_pred_decides q p).0 same in
+        let at = numbered (position_or_len (alike constants candidates p) preds) p (sym (find_at (alike constants candidates p) preds) ∙ is ∙ ap Some e) in
+        absurd (false≢true (sym other ∙ eq-eqb _ _ (sym at ∙ numbered n p there)))
+    not_same q is other false same = refl
+
+    not_first : (o : Option Pred) → find (alike constants candidates p) preds ≡ o → (position_or_len (alike constants candidates p) preds == n) ≡ false → is_first_alike constants candidates preds p ≡ false
+    not_first None is other = absurd (finds (alike constants candidates p) preds n p there (alike_self constants candidates p) is)
+    not_first (Some q) is other = rw is (not_same q is other (same_pred q p) refl)
 
 -- the same of vectors
 stands_is : (constants : List Value) (candidates : List Row) (preds : List Pred) (n : ℕ) (p : Pred) → Numbered preds → slice_get preds n ≡ Some p
     → stands_first (map (kept_vector constants candidates) preds) (n, kept_vector constants candidates p) ≡ is_first_alike constants candidates preds p
 stands_is constants candidates preds n p numbered there =
     ap (λ m. m == n) (position_map (same_bits (kept_vector constants candidates p)) (kept_vector constants candidates) preds
-        ∙ position_same _ (alike constants candidates p) preds (alike_is constants candidates p))
+    ∙ position_same _ (alike constants candidates p) preds (alike_is constants candidates p))
     ∙ first_at constants candidates preds n p numbered there
 
 -- the choices of what is left of a list
@@ -120,17 +121,19 @@ choices_from : (constants : List Value) (candidates : List Row) (preds left : Li
 choices_from constants candidates preds [] n numbered suffix = refl
 choices_from constants candidates preds (p ∷ left) n numbered suffix =
     here (is_first_alike constants candidates preds p) refl
-        (choices_from constants candidates preds left (n + 1) numbered (λ k. suffix (suc k) ∙ ap (slice_get preds) (omega arith)))
+    (choices_from constants candidates preds left (n + 1) numbered (λ k. suffix (suc k) ∙ ap (slice_get preds) (omega arith)))
   where
-  vs : List (List Bool)
-  vs = map (kept_vector constants candidates) preds
-  there : slice_get preds n ≡ Some p
-  there = ap (slice_get preds) (omega arith) ∙ sym (suffix 0)
-  here : (b : Bool) → is_first_alike constants candidates preds p ≡ b
-      → flat_map (class_choice preds) (map class_of (filter (stands_first (map (kept_vector constants candidates) preds)) (enumerate_from (n + 1) (map (kept_vector constants candidates) left)))) ≡ map (choice preds) (filter (is_first_alike constants candidates preds) left)
-      → flat_map (class_choice preds) (map class_of (filter (stands_first (map (kept_vector constants candidates) preds)) (enumerate_from n (map (kept_vector constants candidates) (p ∷ left))))) ≡ map (choice preds) (filter (is_first_alike constants candidates preds) (p ∷ left))
-  here true is rest = rw (stands_is constants candidates preds n p numbered there, is, there, numbered n p there) (ap (λ t. (record { pred = p; number = n }) ∷ t) rest)
-  here false is rest = rw (stands_is constants candidates preds n p numbered there, is) rest
+    vs : List (List Bool)
+    vs = map (kept_vector constants candidates) preds
+
+    there : slice_get preds n ≡ Some p
+    there = ap (slice_get preds) (omega arith) ∙ sym (suffix 0)
+
+    here : (b : Bool) → is_first_alike constants candidates preds p ≡ b
+        → flat_map (class_choice preds) (map class_of (filter (stands_first (map (kept_vector constants candidates) preds)) (enumerate_from (n + 1) (map (kept_vector constants candidates) left)))) ≡ map (choice preds) (filter (is_first_alike constants candidates preds) left)
+        → flat_map (class_choice preds) (map class_of (filter (stands_first (map (kept_vector constants candidates) preds)) (enumerate_from n (map (kept_vector constants candidates) (p ∷ left))))) ≡ map (choice preds) (filter (is_first_alike constants candidates preds) (p ∷ left))
+    here true is rest = rw (stands_is constants candidates preds n p numbered there, is, there, numbered n p there) (ap (λ t. (record { pred = p; number = n }) ∷ t) rest)
+    here false is rest = rw (stands_is constants candidates preds n p numbered there, is) rest
 
 -- the choices of the classes of the predicates over columns of these types are the standard predicates
 pub choices_are : (constants : List Value) (candidates : List Row) (types : List ColType) (bound width : ℕ) (rows : List (List Bool)) (found : List Class)

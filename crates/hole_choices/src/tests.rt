@@ -20,10 +20,7 @@ fn first_of_those_alike(rt: HostRuntime) -> Result<(), Fail> {
     rows.push(row(alloc, Value::Null)?)?;
     let constants = [Value::Int(1)];
     // Always, =, <>, <, >= and IS NULL keep other rows each; of two atoms only `= OR IS NULL` and `<> OR IS NULL` are new.
-    let cases: [(u32, &[u64]); 2] = [
-        (1, &[0, 1, 2, 3, 6, 7]),
-        (2, &[0, 1, 2, 3, 6, 7, 42, 48]),
-    ];
+    let cases: [(u32, &[u64]); 2] = [(1, &[0, 1, 2, 3, 6, 7]), (2, &[0, 1, 2, 3, 6, 7, 42, 48])];
     for (bound, wanted) in cases {
         let found = choices(alloc, &constants, &[ColType::Int], bound, rows.as_slice())?;
         let mut numbers = Vec::new(alloc);

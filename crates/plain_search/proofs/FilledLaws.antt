@@ -68,7 +68,7 @@ filter_by task x found p has standard =
     let is_standard : is_standard_tree task (t.filter x p) ≡ is_standard_filter task x p = and_true (is_standard_tree task x) (is_standard_filter task x p) (is_standard_filter task x p) standard refl in
     let same_rows : rows_or_none task (t.filter x p) ≡ list_filter (keeps task.constants p) (rows_or_none task x) = rw has refl in
     let made : filling task (t.filter x p) ≡ filter_filled task c chosen =
-        ap (λ kept. record { tree = t.filter x p; types = columns task x; numbers = pred_numbers task x ++ chosen.number ∷ []; rows = kept }) same_rows in
+    ap (λ kept. record { tree = t.filter x p; types = columns task x; numbers = pred_numbers task x ++ chosen.number ∷ []; rows = kept }) same_rows in
     single_same (is_filled task (t.filter x p)) (is_standard_filter task x p) (filling task (t.filter x p)) (filter_filled task c chosen) (and_true _ _ _ has_rows is_standard) made
     ∙ both_tests (is_first task (columns task x) (rows_or_none task x) p) (not (keeps_all task.constants (rows_or_none task x) p)) (filter_filled task c chosen)
 
@@ -179,11 +179,11 @@ group_of : (task : TaskParts) (keys : List ℕ) (agg : Agg) (x : Tree) (o : Opti
 group_of task keys agg x None b has standard = rw has refl
 group_of task keys agg x (Some found) b has standard = grouped_of (grouped keys agg found) refl b standard
   where
-  grouped_of : (g : Option (List Row)) → grouped keys agg found ≡ g → (s : Bool) → is_standard_tree task x ≡ s → filled_of task (t.group x keys agg) ≡ flat_map (groups_on keys agg) (filled_of task x)
-  grouped_of None is true s = rw (has, s, is) refl
-  grouped_of None is false s = rw (has, s, is) refl
-  grouped_of (Some groups) is true s = rw (has, s, is) refl
-  grouped_of (Some groups) is false s = rw (has, s, is) refl
+    grouped_of : (g : Option (List Row)) → grouped keys agg found ≡ g → (s : Bool) → is_standard_tree task x ≡ s → filled_of task (t.group x keys agg) ≡ flat_map (groups_on keys agg) (filled_of task x)
+    grouped_of None is true s = rw (has, s, is) refl
+    grouped_of None is false s = rw (has, s, is) refl
+    grouped_of (Some groups) is true s = rw (has, s, is) refl
+    grouped_of (Some groups) is false s = rw (has, s, is) refl
 
 -- a union of two parts
 united_has : (kind : Uniting) (task : TaskParts) (x y : Tree) → rows task (united kind x y) ≡ of_both (united_rows kind) (rows task x) (rows task y)

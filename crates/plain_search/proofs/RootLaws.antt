@@ -60,9 +60,9 @@ kept_single : (task : TaskParts) (n : ℕ) (x : Tree) (picks : List ℕ) (distin
     → kept task n (query_of x picks distinct ∷ []) ≡ kept_query task n (filling task x) picks distinct
 kept_single task n x picks distinct found has standard = rw (kept_one task n x picks distinct found has standard) (answer_or_not _)
   where
-  answer_or_not : (b : Bool) → map (ranked task) (if b then numbered_as n (query_of x picks distinct) ∷ [] else []) ≡ (if b then ranked task (numbered_as n (query_of x picks distinct)) ∷ [] else [])
-  answer_or_not true = refl
-  answer_or_not false = refl
+    answer_or_not : (b : Bool) → map (ranked task) (if b then numbered_as n (query_of x picks distinct) ∷ [] else []) ≡ (if b then ranked task (numbered_as n (query_of x picks distinct)) ∷ [] else [])
+    answer_or_not true = refl
+    answer_or_not false = refl
 
 kept_append : (task : TaskParts) (n : ℕ) (xs ys : List Select) → kept task n (xs ++ ys) ≡ kept task n xs ++ kept task n ys
 kept_append task n xs ys =
@@ -79,9 +79,9 @@ kept_some : (task : TaskParts) (n : ℕ) (x : Tree) (found : List Row) → rows 
 kept_some task n x found has standard =
     kept_of_joined task n (with_flags x) (maps (columns task x) (types_of task.output))
     ∙ flat_map_same (λ picks. kept task n (with_flags x picks)) (kept_map task n (filling task x)) (maps (columns task x) (types_of task.output))
-        (λ picks. kept_append task n (query_of x picks false ∷ []) (query_of x picks true ∷ [])
-            ∙ ap (λ t. t ++ kept task n (query_of x picks true ∷ [])) (kept_single task n x picks false found has standard)
-            ∙ ap (λ t. kept_query task n (filling task x) picks false ++ t) (kept_single task n x picks true found has standard))
+    (λ picks. kept_append task n (query_of x picks false ∷ []) (query_of x picks true ∷ [])
+    ∙ ap (λ t. t ++ kept task n (query_of x picks true ∷ [])) (kept_single task n x picks false found has standard)
+    ∙ ap (λ t. kept_query task n (filling task x) picks false ++ t) (kept_single task n x picks true found has standard))
 
 -- what is kept of the queries of any other tree
 none_answers : (task : TaskParts) (n : ℕ) (x : Tree) (picks : List ℕ) (distinct : Bool) (o : Option (List Row)) (b : Bool) → rows task x ≡ o → is_standard_tree task x ≡ b → is_some o && b ≡ false
@@ -90,15 +90,15 @@ none_answers task n x picks distinct o false has standard not_both = rw standard
 none_answers task n x picks distinct (Some found) true has standard not_both = cc
 none_answers task n x picks distinct None true has standard not_both = rw (has, standard) (and_false _)
   where
-  and_false : (c : Bool) → (c && false) ≡ false
-  and_false true = refl
-  and_false false = refl
+    and_false : (c : Bool) → (c && false) ≡ false
+    and_false true = refl
+    and_false false = refl
 
 kept_none : (task : TaskParts) (n : ℕ) (x : Tree) (o : Option (List Row)) (b : Bool) → rows task x ≡ o → is_standard_tree task x ≡ b → is_some o && b ≡ false → kept task n (queries_of_body task x) ≡ []
 kept_none task n x o b has standard not_both =
     kept_of_joined task n (with_flags x) (maps (columns task x) (types_of task.output))
     ∙ flat_map_none (λ picks. kept task n (with_flags x picks)) (maps (columns task x) (types_of task.output))
-        (λ picks. rw (none_answers task n x picks false o b has standard not_both, none_answers task n x picks true o b has standard not_both) refl)
+    (λ picks. rw (none_answers task n x picks false o b has standard not_both, none_answers task n x picks true o b has standard not_both) refl)
 
 kept_body : (task : TaskParts) (n : ℕ) (x : Tree) (o : Option (List Row)) (b : Bool) → rows task x ≡ o → is_standard_tree task x ≡ b → kept task n (queries_of_body task x) ≡ flat_map (kept_on task n) (filled_of task x)
 kept_body task n x None b has standard = kept_none task n x None b has standard refl ∙ rw has refl

@@ -57,13 +57,7 @@ fn copied<T: Copy>(alloc: Global, items: &[T]) -> Result<Items<T>, OutOfMemory>
 }
 
 // A join or a left join of copies of two nodes.
-fn paired(
-    alloc: Global,
-    kind: Pairing,
-    a: &Node,
-    b: &Node,
-    pred: Pred,
-) -> Result<Node, OutOfMemory>
+fn paired(alloc: Global, kind: Pairing, a: &Node, b: &Node, pred: Pred) -> Result<Node, OutOfMemory>
     ensures { IfOk result (λ n. tree n ≡ paired kind (tree a.now) (tree b.now) pred) }
 {
     let a = boxed(alloc, a)?;

@@ -214,8 +214,7 @@ fn push_unions_with(
     ensures { OnOk result (map filled out.new ≡ map filled out.old ++ flat_map (unions_on kind (filled a.now)) (map filled others.now)) }
 {
     for b in others {
-        out.push(a.union(alloc, kind, b)?)
-            .map_err(|_| OutOfMemory)?;
+        out.push(a.union(alloc, kind, b)?).map_err(|_| OutOfMemory)?;
     }
     Ok(())
 }
@@ -261,12 +260,24 @@ pub fn fill(alloc: Global, task: &TaskParts, skeleton: &Node) -> Result<Items<Bo
         Node::Join(a, b, _) => {
             let lefts = fill(alloc, task, a.get())?;
             let rights = fill(alloc, task, b.get())?;
-            fill_pairs(alloc, task, Pairing::Join, lefts.as_slice(), rights.as_slice())
+            fill_pairs(
+                alloc,
+                task,
+                Pairing::Join,
+                lefts.as_slice(),
+                rights.as_slice(),
+            )
         }
         Node::Left(a, b, _) => {
             let lefts = fill(alloc, task, a.get())?;
             let rights = fill(alloc, task, b.get())?;
-            fill_pairs(alloc, task, Pairing::Left, lefts.as_slice(), rights.as_slice())
+            fill_pairs(
+                alloc,
+                task,
+                Pairing::Left,
+                lefts.as_slice(),
+                rights.as_slice(),
+            )
         }
         Node::Group(child, keys, agg) => {
             let children = fill(alloc, task, child.get())?;

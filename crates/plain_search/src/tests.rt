@@ -50,7 +50,12 @@ fn table(alloc: Global, name: &str, tabled: Tabled) -> Result<Table, Fail> {
 }
 
 // Inputs, the output, constants, and the bounds on operators, leaves and atoms.
-type Given<'a> = (&'a [(&'a str, Tabled<'a>)], Tabled<'a>, &'a [&'a str], (u32, u32, u32));
+type Given<'a> = (
+    &'a [(&'a str, Tabled<'a>)],
+    Tabled<'a>,
+    &'a [&'a str],
+    (u32, u32, u32),
+);
 
 fn task(alloc: Global, given: Given, aggregates: AggSet) -> Result<Task, Fail> {
     let mut inputs = Items::new(alloc);
@@ -189,12 +194,22 @@ fn lists_answers(rt: HostRuntime) -> Result<(), Fail> {
             b"a",
         ),
         (
-            (&[("t", three)], (MIXED, &[&["c", "1"]]), &["a", "1"], (1, 1, 1)),
+            (
+                &[("t", three)],
+                (MIXED, &[&["c", "1"]]),
+                &["a", "1"],
+                (1, 1, 1),
+            ),
             AggSet::NONE,
             b"",
         ),
         (
-            (&[("t", three)], (MIXED, &[&["c", "1"]]), &["a", "1"], (1, 1, 2)),
+            (
+                &[("t", three)],
+                (MIXED, &[&["c", "1"]]),
+                &["a", "1"],
+                (1, 1, 2),
+            ),
             AggSet::NONE,
             b"F&a",
         ),

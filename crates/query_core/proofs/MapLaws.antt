@@ -75,12 +75,15 @@ of_each_filled_is {T} {U} F G H test make (x ∷ xs) ys one pair =
     ∙ ap (λ t. flat_map (λ u. flat_map (H u) (flat_map F ys)) (F x) ++ t) (of_each_filled_is F G H test make xs ys one pair)
     ∙ sym (flat_map-append (λ u. flat_map (H u) (flat_map F ys)) (F x) (flat_map F xs))
   where
-  by_parts : (u : U) → F x ≡ u ∷ [] → flat_map (λ y. flat_map F (G x y)) ys ≡ flat_map (λ y. flat_map (H u) (F y)) ys
-  by_parts u is = flat_map_same _ _ ys (λ y. pair x y ∙ rw is (append-nil (flat_map (H u) (F y))))
-  none : F x ≡ [] → flat_map F (flat_map (G x) ys) ≡ flat_map (λ u. flat_map (H u) (flat_map F ys)) (F x)
-  none is = flat_map_twice F (G x) ys ∙ flat_map_none (λ y. flat_map F (G x y)) ys (λ y. pair x y ∙ rw is refl) ∙ rw is refl
-  some : (u : U) → F x ≡ u ∷ [] → flat_map F (flat_map (G x) ys) ≡ flat_map (λ u. flat_map (H u) (flat_map F ys)) (F x)
-  some u is = flat_map_twice F (G x) ys ∙ by_parts u is ∙ sym (flat_map_twice (H u) F ys) ∙ rw is (sym (append-nil (flat_map (H u) (flat_map F ys))))
-  here : (b : Bool) → test x ≡ b → flat_map F (flat_map (G x) ys) ≡ flat_map (λ u. flat_map (H u) (flat_map F ys)) (F x)
-  here true is = some (make x) (one x ∙ rw is refl)
-  here false is = none (one x ∙ rw is refl)
+    by_parts : (u : U) → F x ≡ u ∷ [] → flat_map (λ y. flat_map F (G x y)) ys ≡ flat_map (λ y. flat_map (H u) (F y)) ys
+    by_parts u is = flat_map_same _ _ ys (λ y. pair x y ∙ rw is (append-nil (flat_map (H u) (F y))))
+
+    none : F x ≡ [] → flat_map F (flat_map (G x) ys) ≡ flat_map (λ u. flat_map (H u) (flat_map F ys)) (F x)
+    none is = flat_map_twice F (G x) ys ∙ flat_map_none (λ y. flat_map F (G x y)) ys (λ y. pair x y ∙ rw is refl) ∙ rw is refl
+
+    some : (u : U) → F x ≡ u ∷ [] → flat_map F (flat_map (G x) ys) ≡ flat_map (λ u. flat_map (H u) (flat_map F ys)) (F x)
+    some u is = flat_map_twice F (G x) ys ∙ by_parts u is ∙ sym (flat_map_twice (H u) F ys) ∙ rw is (sym (append-nil (flat_map (H u) (flat_map F ys))))
+
+    here : (b : Bool) → test x ≡ b → flat_map F (flat_map (G x) ys) ≡ flat_map (λ u. flat_map (H u) (flat_map F ys)) (F x)
+    here true is = some (make x) (one x ∙ rw is refl)
+    here false is = none (one x ∙ rw is refl)

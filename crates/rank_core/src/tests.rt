@@ -8,8 +8,7 @@ use table_core::{AggSet, Table, TaskParts};
 use value_core::{CmpOp, Value, Word};
 
 // The parts of a task without inputs, so that each hole has one predicate, Always.
-fn parts(alloc: Global) -> Result<TaskParts, Fail>
-{
+fn parts(alloc: Global) -> Result<TaskParts, Fail> {
     let mut constants = Items::new(alloc);
     constants.push(Value::Int(7))?;
     Ok(TaskParts {

@@ -102,7 +102,7 @@ map_joined f g (x ∷ xs) = map-append f (g x) (flat_map g xs) ∙ ap (λ t. map
 groups_over : (task : TaskParts) (x : Tree) → groups_on task (listed task x) ≡ map (listed task) (groups_of task x)
 groups_over task x =
     flat_map_same (keyed_on task (listed task x)) (λ keys. map (listed task) (map (t.group x keys) (agg_list task.aggregates (columns task x) keys))) (key_lists (length (columns task x)))
-        (λ keys. sym (map_twice (listed task) (t.group x keys) (agg_list task.aggregates (columns task x) keys)))
+    (λ keys. sym (map_twice (listed task) (t.group x keys) (agg_list task.aggregates (columns task x) keys)))
     ∙ sym (map_joined (listed task) (λ keys. map (t.group x keys) (agg_list task.aggregates (columns task x) keys)) (key_lists (length (columns task x))))
 
 groups_are : (task : TaskParts) (last : List Tree) → flat_map (groups_on task) (map (listed task) last) ≡ map (listed task) (flat_map (groups_of task) last)
@@ -121,11 +121,11 @@ next_is task ls =
     let filters = ap (flat_map filter_on) (last_is task ls) ∙ filters_are task last in
     let groups = ap (flat_map (groups_on task)) (last_is task ls) ∙ groups_are task last in
     let first = ap (λ x. x ++ (pairs_on task Join (listed_levels task ls) ++ pairs_on task Left (listed_levels task ls))) filters
-        ∙ ap (λ x. map (listed task) (filters_over last) ++ (x ++ pairs_on task Left (listed_levels task ls))) (joins_are task ls)
-        ∙ ap (λ x. map (listed task) (filters_over last) ++ (map (listed task) (joins_of task (level_pairs ls)) ++ x)) (lefts_are task ls) in
+    ∙ ap (λ x. map (listed task) (filters_over last) ++ (x ++ pairs_on task Left (listed_levels task ls))) (joins_are task ls)
+    ∙ ap (λ x. map (listed task) (filters_over last) ++ (map (listed task) (joins_of task (level_pairs ls)) ++ x)) (lefts_are task ls) in
     let second = ap (λ x. x ++ (pairs_on task UnionAll (listed_levels task ls) ++ pairs_on task Union (listed_levels task ls))) groups
-        ∙ ap (λ x. map (listed task) (flat_map (groups_of task) last) ++ (x ++ pairs_on task Union (listed_levels task ls))) (union_alls_are task ls)
-        ∙ ap (λ x. map (listed task) (flat_map (groups_of task) last) ++ (map (listed task) (union_alls_of task (level_pairs ls)) ++ x)) (unions_are task ls) in
+    ∙ ap (λ x. map (listed task) (flat_map (groups_of task) last) ++ (x ++ pairs_on task Union (listed_levels task ls))) (union_alls_are task ls)
+    ∙ ap (λ x. map (listed task) (flat_map (groups_of task) last) ++ (map (listed task) (union_alls_of task (level_pairs ls)) ++ x)) (unions_are task ls) in
     ap (λ x. x ++ last_kinds task (listed_levels task ls)) first
     ∙ ap (λ x. (map (listed task) (filters_over last) ++ (map (listed task) (joins_of task (level_pairs ls)) ++ map (listed task) (lefts_of task (level_pairs ls)))) ++ x) second
     ∙ six (listed task) (filters_over last) (joins_of task (level_pairs ls)) (lefts_of task (level_pairs ls)) (flat_map (groups_of task) last) (union_alls_of task (level_pairs ls)) (unions_of task (level_pairs ls))

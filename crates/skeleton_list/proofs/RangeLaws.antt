@@ -24,7 +24,6 @@ pairs_first x rest = map-append two (map (λ y. (x, y)) rest) (pairs rest) ∙ a
 pub range_more : (out more whole : List ℕ) (i width : ℕ) → i < width → more ≡ out ++ i ∷ [] → out ++ range_with_len i (width - i) ≡ whole → more ++ range_with_len (i + 1) (width - (i + 1)) ≡ whole
 range_more out more whole i width below is inv = rw (is, append_assoc) (rw (range_next i width below) at inv)
 
-
 -- the pairs of what is left, where it begins at a place
 pairs_at : (columns : List ℕ) (i : ℕ) → i < length columns
     → map (λ p. p.0 ∷ p.1 ∷ []) (pairs (drop i columns)) ≡ map (λ j. get_or columns i 0 ∷ j ∷ []) (drop (i + 1) columns) ++ map (λ p. p.0 ∷ p.1 ∷ []) (pairs (drop (i + 1) columns))

@@ -237,11 +237,7 @@ fn where_allowed(flag: bool, columns: &[usize]) -> &[usize]
 }
 
 // Appends the counts that are allowed.
-fn push_all_counts(
-    out: &mut Items<Agg>,
-    set: &AggSet,
-    columns: &[usize],
-) -> Result<(), OutOfMemory>
+fn push_all_counts(out: &mut Items<Agg>, set: &AggSet, columns: &[usize]) -> Result<(), OutOfMemory>
     ensures { OnOk result (out.new ≡ out.old ++ (allowed set.now.count_all (CountAll ∷ []) ++ (allowed set.now.count (map Count columns.now) ++ allowed set.now.count_distinct (map CountDistinct columns.now)))) }
 {
     push_count_all(out, set.count_all)?;

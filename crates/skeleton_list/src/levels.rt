@@ -60,7 +60,12 @@ fn add_level(alloc: Global, task: &TaskParts, below: Levels) -> Result<Levels, L
 }
 
 // The levels of the skeletons with at most so many operators, where there are at most `limit`.
-fn levels_up_to(alloc: Global, task: &TaskParts, limit: usize, ops: u32) -> Result<Levels, ListFault>
+fn levels_up_to(
+    alloc: Global,
+    task: &TaskParts,
+    limit: usize,
+    ops: u32,
+) -> Result<Levels, ListFault>
     ensures listed { IfOk result (λ l. (plain_levels l.levels ≡ listed_levels task.now (levels task.now ops)) × (l.room + length (all_of (levels task.now ops)) ≡ limit)) }
     ensures many { result ≡ Err TooMany → limit < length (all_of (levels task.now ops)) }
 {
@@ -72,11 +77,7 @@ fn levels_up_to(alloc: Global, task: &TaskParts, limit: usize, ops: u32) -> Resu
 }
 
 // Appends the nodes of these skeletons.
-fn push_nodes(
-    alloc: Global,
-    level: &[Skeleton],
-    out: &mut Items<Node>,
-) -> Result<(), OutOfMemory>
+fn push_nodes(alloc: Global, level: &[Skeleton], out: &mut Items<Node>) -> Result<(), OutOfMemory>
     ensures { OnOk result (map tree out.new ≡ map tree out.old ++ map (λ s. s.tree) (plains level.now)) }
 {
     for skeleton in level {

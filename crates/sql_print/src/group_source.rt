@@ -48,11 +48,7 @@ fn agg_text(alloc: Global, columns: &[Bytes], agg: &Agg) -> Result<Bytes, OutOfM
 }
 
 // The texts of the key columns.
-fn key_texts(
-    alloc: Global,
-    columns: &[Bytes],
-    keys: &[usize],
-) -> Result<Items<Bytes>, OutOfMemory>
+fn key_texts(alloc: Global, columns: &[Bytes], keys: &[usize]) -> Result<Items<Bytes>, OutOfMemory>
     ensures { IfOk result (λ texts. texts ≡ map (text_at columns.now) keys.now) }
 {
     let mut texts = Items::new(alloc);

@@ -32,11 +32,7 @@ fn push_nested(out: &mut Vec<u8>, nested: bool, text: &[u8]) -> Result<(), OutOf
 }
 
 // A copy of these texts.
-fn push_copies(
-    alloc: Global,
-    out: &mut Items<Bytes>,
-    texts: &[Bytes],
-) -> Result<(), OutOfMemory>
+fn push_copies(alloc: Global, out: &mut Items<Bytes>, texts: &[Bytes]) -> Result<(), OutOfMemory>
     ensures { OnOk result (out.new ≡ out.old ++ texts.now) }
 {
     for text in texts {
@@ -47,11 +43,7 @@ fn push_copies(
 }
 
 // The columns of two sources.
-fn both_columns(
-    alloc: Global,
-    left: &[Bytes],
-    right: &[Bytes],
-) -> Result<Items<Bytes>, OutOfMemory>
+fn both_columns(alloc: Global, left: &[Bytes], right: &[Bytes]) -> Result<Items<Bytes>, OutOfMemory>
     ensures { IfOk result (λ columns. columns ≡ left.now ++ right.now) }
 {
     let mut columns = Items::new(alloc);

@@ -130,7 +130,16 @@ fn printed(
         Node::Left(a, b, pred) => {
             let left = printed(alloc, task, a.get(), Place::Among, number)?;
             let right = printed(alloc, task, b.get(), Place::Among, left.next)?;
-            join_placed(alloc, task, place, left_join_words(), b.get(), pred, left, right)
+            join_placed(
+                alloc,
+                task,
+                place,
+                left_join_words(),
+                b.get(),
+                pred,
+                left,
+                right,
+            )
         }
         Node::Group(child, keys, agg) => {
             let part = printed(alloc, task, child.get(), Place::AfterFrom, number)?;

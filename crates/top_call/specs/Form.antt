@@ -1,17 +1,13 @@
 -- The form of task that is built so far.
-use Rattle.std.specs.Prelude.{ℕ, Bool, not, ◌&&◌, ◌==◌, nat_le, List, length, Option, if◌then◌else◌}
-use Rattle.table_core.specs.declared.agg_set.AggSet.{AggSet}
+use Rattle.std.specs.Prelude.{ℕ, Bool, nat_le, List, length, Option, if◌then◌else◌}
 use Rattle.table_core.specs.declared.task.TaskParts.{TaskParts}
+use Rattle.query_core.specs.Grammar.{skeletons}
 use Rattle.task_read.specs.Told.{Told, refused, ready, ◌>>=◌}
 use Rattle.task_read.specs.Task.{task_told}
 
--- whether no aggregate is among these
-abbrev pub is_none_of : AggSet → Bool
-is_none_of set = (not set.count_all && (not set.count && not set.count_distinct)) && (not set.sum && (not set.min && not set.max))
-
--- whether a task is of the form that is built so far: one input, at most one operator, one leaf, one atom and no aggregate
+-- whether a task is of the form that is built so far: it has at most 100,000 skeletons
 abbrev pub is_built : TaskParts → Bool
-is_built task = ((length task.inputs == 1) && (nat_le task.ops 1 && ((task.leaves == 1) && (task.atoms == 1)))) && is_none_of task.aggregates
+is_built task = nat_le (length (skeletons task)) 100000
 
 -- a task of that form, and a refusal of any other
 abbrev pub built : TaskParts → Told TaskParts

@@ -195,12 +195,13 @@ fn lines_fail(rt: HostRuntime) -> Result<(), Fail> {
 #[test]
 fn tasks_that_are_not_built(rt: HostRuntime) -> Result<(), Fail> {
     let table = "[[input]]\nname = \"t\"\nfile = \"t.csv\"\n[output]\nfile = \"out.csv\"\n";
+    let all =
+        "aggregates = [\"count(*)\", \"count\", \"count distinct\", \"sum\", \"min\", \"max\"]\n";
+    let many = format!(in rt.alloc(); "ops = 4\nleaves = 3\n{all}")?;
     for numbers in [
-        "ops = 2\nleaves = 1\natoms = 1\n",
-        "ops = 1\nleaves = 2\natoms = 1\n",
-        "ops = 1\nleaves = 1\n",
-        "ops = 1\nleaves = 1\natoms = 1\naggregates = [\"sum\"]\n",
         "ops = 5\nleaves = 1\natoms = 1\n",
+        "ops = 1\nleaves = 1\natoms = 1\nshow = 2\n",
+        many.as_str(),
     ] {
         let task = format!(in rt.alloc(); "{numbers}{table}")?;
         let mut folder = SureFolder::new(files_of(rt, &task)?);

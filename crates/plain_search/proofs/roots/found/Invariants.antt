@@ -10,4 +10,4 @@ use Rattle.plain_search.proofs.roots.found.Given as goal
 abbrev pub invariant-loop-number : goal.invariant-loop-number
 invariant-loop-number l =
     map ranked_query l.out.items ++ flat_map (kept_of l.task) (enumerate_from l.number (map tree (drop l.number l.skeletons)))
-    ≡  kept_of_all l.task (map tree l.skeletons)
+    ≡ kept_of_all l.task (map tree l.skeletons)

@@ -11,4 +11,4 @@ returns-in_ok-nodes-in-Ok c =
     let nodes = c.in_ok-nodes-in-Ok.field-0 in
     let found = c.in-Ok.found in
     nodes_are c.args.task.now (plain_levels found.levels) (map tree nodes) found.room c.args.limit (length nodes) c.in-Ok.ensures.listed.0 c.in-Ok.ensures.listed.1
-        (c.in_ok-nodes-in-Ok.ensures ∙ ap (λ ls. map (λ s. s.tree) (all_of (plain_levels ls))) c.as_slice.ensures) (sym (length-map nodes tree))
+    (c.in_ok-nodes-in-Ok.ensures ∙ ap (λ ls. map (λ s. s.tree) (all_of (plain_levels ls))) c.as_slice.ensures) (sym (length-map nodes tree))
