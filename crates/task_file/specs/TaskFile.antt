@@ -1,21 +1,27 @@
--- The task file of the smallest form.
+-- The task file.
 use Rattle.std.specs.Prelude.{ℕ, Bool, true, not, ◌&&◌, List, [], ◌∷◌, map, codes, Option, Some, None, option_map}
 use Rattle.std.specs.List.{list_any}
 use Rattle.std.specs.Option.{option_or}
-use Rattle.toml.specs.Data.{Data, Members, get_member, as_integer, as_table}
-use Rattle.toml_keys.specs.Keys.{◌>>=◌, when, document_of, number_at, text_of, text_at, array_of, array_at, table_at, read_or, with_only}
+use Rattle.std.specs.Str.{bytes_eq}
+use Rattle.toml.specs.Data.{Data, Members, get_member, as_str, as_integer, as_table}
+use Rattle.toml_keys.specs.Keys.{◌>>=◌, when, document_of, number_or, text_of, text_at, array_of, array_at, table_at, read_or, is_among, with_only}
 use Rattle.value_core.specs.declared.value.Value.{Value}
 use Rattle.value_core.specs.declared.value.Value.TheVariants.{Int, Text}
 use Rattle.value_core.specs.Value.{same}
+use Rattle.table_core.specs.declared.agg_set.AggSet.{AggSet}
 use Rattle.task_file.specs.declared.input.InputFile.{InputFile}
 use Rattle.task_file.specs.declared.task.TaskFile.{TaskFile}
 
 -- the most inputs, and the most constants
 abbrev pub most_inputs : ℕ
-most_inputs = 1
+most_inputs = 4
 
 abbrev pub most_constants : ℕ
 most_constants = 6
+
+-- the names of the aggregates
+abbrev pub aggregate_names : List (List ℕ)
+aggregate_names = codes "count(*)" ∷ codes "count" ∷ codes "count distinct" ∷ codes "sum" ∷ codes "min" ∷ codes "max" ∷ []
 
 -- the most bytes of a name or a text, and of a file's name
 abbrev pub longest_word : ℕ
@@ -24,19 +30,22 @@ longest_word = 64
 abbrev pub longest_file : ℕ
 longest_file = 255
 
--- the largest `ops`, `leaves` and `atoms`
+-- the largest `ops`, `leaves` and `atoms`, and what each is where its key is absent
 abbrev pub most_ops : ℕ
-most_ops = 1
+most_ops = 4
 
 abbrev pub most_leaves : ℕ
-most_leaves = 1
+most_leaves = 3
 
 abbrev pub most_atoms : ℕ
-most_atoms = 1
+most_atoms = 3
+
+abbrev pub default_number : ℕ
+default_number = 2
 
 -- the keys at the top, of an input and of the output
 abbrev pub task_keys : List (List ℕ)
-task_keys = codes "input" ∷ codes "output" ∷ codes "constants" ∷ codes "ops" ∷ codes "leaves" ∷ codes "atoms" ∷ []
+task_keys = codes "input" ∷ codes "output" ∷ codes "constants" ∷ codes "aggregates" ∷ codes "ops" ∷ codes "leaves" ∷ codes "atoms" ∷ []
 
 abbrev pub input_keys : List (List ℕ)
 input_keys = codes "name" ∷ codes "file" ∷ []
@@ -76,21 +85,49 @@ output_of members = do
 unfoldable pub constant_of : Data → Option Value
 constant_of value = option_or (option_map Int (as_integer value)) (option_map Text (text_of longest_word value))
 
--- no two of the values are the same
-abbrev pub all_distinct : List Value → Bool
-all_distinct [] = true
-all_distinct (value ∷ others) = not (list_any (same value) others) && all_distinct others
+-- no two of a list are the same by this test
+abbrev pub all_distinct : {A : Type 0} → (A → A → Bool) → List A → Bool
+all_distinct alike [] = true
+all_distinct alike (x ∷ others) = not (list_any (alike x) others) && all_distinct alike others
 
 -- an array of distinct constants
 unfoldable pub constant_list_of : Data → Option (List Value)
 constant_list_of value = do
   items ← array_of 0 most_constants value
   constants ← all_some (map constant_of items)
-  when (all_distinct constants) constants
+  when (all_distinct same constants) constants
 
 -- the constants, in the file's order: none where the key is absent
 unfoldable pub constants_of : Members → Option (List Value)
 constants_of members = read_or [] constant_list_of (get_member (codes "constants") members)
+
+-- the name of an aggregate
+unfoldable pub aggregate_name_of : Data → Option (List ℕ)
+aggregate_name_of value = do
+  name ← as_str value
+  when (is_among aggregate_names name) name
+
+-- the aggregates of these names
+abbrev pub aggregates_named : List (List ℕ) → AggSet
+aggregates_named names = record {
+  count_all = is_among names (codes "count(*)");
+  count = is_among names (codes "count");
+  count_distinct = is_among names (codes "count distinct");
+  sum = is_among names (codes "sum");
+  min = is_among names (codes "min");
+  max = is_among names (codes "max");
+}
+
+-- an array of distinct names of aggregates
+unfoldable pub aggregate_list_of : Data → Option AggSet
+aggregate_list_of value = do
+  items ← array_of 0 6 value
+  names ← all_some (map aggregate_name_of items)
+  when (all_distinct bytes_eq names) (aggregates_named names)
+
+-- the aggregates: none where the key is absent
+unfoldable pub aggregates_of : Members → Option AggSet
+aggregates_of members = read_or (aggregates_named []) aggregate_list_of (get_member (codes "aggregates") members)
 
 -- the task, with its keys read in this order
 unfoldable pub task_of : Members → Option TaskFile
@@ -99,10 +136,11 @@ task_of members = do
   inputs ← inputs_of known
   output ← output_of known
   constants ← constants_of known
-  ops ← number_at (codes "ops") 0 most_ops known
-  leaves ← number_at (codes "leaves") 1 most_leaves known
-  atoms ← number_at (codes "atoms") 1 most_atoms known
-  Some (record { inputs = inputs; output = output; constants = constants; ops = ops; leaves = leaves; atoms = atoms })
+  aggregates ← aggregates_of known
+  ops ← number_or (codes "ops") default_number 0 most_ops known
+  leaves ← number_or (codes "leaves") default_number 1 most_leaves known
+  atoms ← number_or (codes "atoms") default_number 1 most_atoms known
+  Some (record { inputs = inputs; output = output; constants = constants; aggregates = aggregates; ops = ops; leaves = leaves; atoms = atoms })
 
 -- the task that a file of these bytes writes
 unfoldable pub task_file_of : List ℕ → Option TaskFile

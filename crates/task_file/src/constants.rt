@@ -47,7 +47,7 @@ fn is_among(value: &Value, others: &[Value]) -> bool
 
 // Whether no two of the values are the same.
 fn all_distinct(values: &[Value]) -> bool
-    ensures { result ≡ all_distinct values.now }
+    ensures { result ≡ all_distinct same values.now }
 {
     let mut rest = values;
     while let Some((value, others)) = rest.split_first() {

@@ -11,7 +11,7 @@ use toml::{Table, Value};
 use toml_keys::{array_at, has_only};
 use value_core::{Bytes, Word};
 
-const MOST_INPUTS: usize = 1;
+const MOST_INPUTS: usize = 4;
 
 /// A table of the task: its name, and the file that holds it.
 #[derive(Debug, Drop)]

@@ -1,6 +1,7 @@
-//! The task file: its inputs, its output, its constants and how far the search goes.
+//! The task file: its inputs, its output, its constants, its aggregates and how far the search goes.
 #![tactic(auto)]
 
+mod aggregates;
 mod constants;
 mod fault;
 mod input;

@@ -1,25 +1,29 @@
 ghost use Rattle.std.specs.Prelude.{◌≡◌, IfOk};
 ghost use Rattle.toml.specs.View.{table_view};
-ghost use Rattle.toml_keys.specs.Keys.{number_at};
+ghost use Rattle.toml_keys.specs.Keys.{number_or};
 ghost use Rattle.task_file.specs.Reading.{Reads};
-ghost use Rattle.task_file.specs.TaskFile.{output_of, task_file_of, task_of};
+ghost use Rattle.task_file.specs.TaskFile.{default_number, output_of, task_file_of, task_of};
 
+use crate::aggregates::read_aggregates;
 use crate::constants::read_constants;
 use crate::fault::TaskFault;
 use crate::input::{InputFile, read_inputs};
 use crate::texts::file_at;
 use sqlite_items::Items;
 use std::alloc::Global;
+use table_core::AggSet;
 use toml::Table;
-use toml_keys::{has_only, number_at, read_document, table_at};
+use toml_keys::{has_only, number_or, read_document, table_at};
 use value_core::{Bytes, OutOfMemory, Value};
 
-// The largest `ops`, `leaves` and `atoms`.
-const MOST_OPS: u32 = 1;
+// The largest `ops`, `leaves` and `atoms`, and what each is where its key is absent.
+const MOST_OPS: u32 = 4;
 
-const MOST_LEAVES: u32 = 1;
+const MOST_LEAVES: u32 = 3;
 
-const MOST_ATOMS: u32 = 1;
+const MOST_ATOMS: u32 = 3;
+
+const DEFAULT_NUMBER: u32 = 2;
 
 /// What a task asks for: queries over the inputs that give the output.
 #[derive(Debug, Drop)]
@@ -30,6 +34,8 @@ pub struct TaskFile {
     pub output: Bytes,
     /// The values that a query may name.
     pub constants: Items<Value>,
+    /// The aggregates that a query may take.
+    pub aggregates: AggSet,
     /// The most operators of a query.
     pub ops: u32,
     /// The most tables that a query reads.
@@ -52,9 +58,9 @@ fn read_output(alloc: Global, table: &Table) -> Result<Bytes, TaskFault>
 }
 
 fn read_number(table: &Table, key: &str, low: u32, high: u32) -> Result<u32, TaskFault>
-    ensures { Reads result (number_at key.now low high (table_view table.now)) }
+    ensures { Reads result (number_or key.now default_number low high (table_view table.now)) }
 {
-    match number_at(table, key, low, high) {
+    match number_or(table, key, DEFAULT_NUMBER, low, high) {
         Some(number) => Ok(number),
         None => Err(TaskFault::WrongForm),
     }
@@ -66,13 +72,22 @@ fn read_task(alloc: Global, table: &Table) -> Result<TaskFile, TaskFault>
 {
     if !has_only(
         table,
-        &["input", "output", "constants", "ops", "leaves", "atoms"],
+        &[
+            "input",
+            "output",
+            "constants",
+            "aggregates",
+            "ops",
+            "leaves",
+            "atoms",
+        ],
     ) {
         return Err(TaskFault::WrongForm);
     }
     let inputs = read_inputs(alloc, table)?;
     let output = read_output(alloc, table)?;
     let constants = read_constants(alloc, table)?;
+    let aggregates = read_aggregates(alloc, table)?;
     let ops = read_number(table, "ops", 0, MOST_OPS)?;
     let leaves = read_number(table, "leaves", 1, MOST_LEAVES)?;
     let atoms = read_number(table, "atoms", 1, MOST_ATOMS)?;
@@ -80,6 +95,7 @@ fn read_task(alloc: Global, table: &Table) -> Result<TaskFile, TaskFault>
         inputs,
         output,
         constants,
+        aggregates,
         ops,
         leaves,
         atoms,
@@ -124,7 +140,8 @@ mod tests {
             "[[input]]\nname = \"aaaaaaaabbbbbbbbccccccccddddddddaaaaaaaabbbbbbbbccccccccdddddddde\"\nfile = \"t.csv\"\n[output]\nfile = \"o.csv\"\n";
         let rows = [
             (NUMBERS, "", TABLES, true),
-            ("ops = 0\nleaves = 1\natoms = 1\n", "", TABLES, true),
+            ("", "", TABLES, true),
+            ("ops = 4\nleaves = 3\natoms = 3\n", "", TABLES, true),
             (
                 NUMBERS,
                 "input = [{ name = \"t\", file = \"t.csv\" }]\noutput = { file = \"o.csv\" }\n",
@@ -137,10 +154,18 @@ mod tests {
                 TABLES,
                 true,
             ),
-            ("leaves = 1\natoms = 1\n", "", TABLES, false),
-            ("ops = 2\nleaves = 1\natoms = 1\n", "", TABLES, false),
-            ("ops = 1.5\nleaves = 1\natoms = 1\n", "", TABLES, false),
+            (NUMBERS, "aggregates = []\n", TABLES, true),
+            (NUMBERS, "aggregates = [\"mean\"]\n", TABLES, false),
+            (NUMBERS, "aggregates = [\"sum\", \"sum\"]\n", TABLES, false),
+            ("ops = 5\n", "", TABLES, false),
+            ("leaves = 0\n", "", TABLES, false),
+            ("leaves = 4\n", "", TABLES, false),
+            ("atoms = 0\n", "", TABLES, false),
+            ("atoms = 4\n", "", TABLES, false),
+            ("ops = 1.5\n", "", TABLES, false),
             (NUMBERS, "budget = 3\n", TABLES, false),
+            (NUMBERS, "show = 3\n", TABLES, false),
+            (NUMBERS, "types = []\n", TABLES, false),
             (
                 NUMBERS,
                 "constants = [1, 2, 3, 4, 5, 6, 7]\n",
@@ -153,6 +178,12 @@ mod tests {
                 NUMBERS,
                 "[[input]]\nname = \"s\"\nfile = \"s.csv\"\n",
                 TABLES,
+                true,
+            ),
+            (
+                "input = [{ name = \"a\", file = \"a\" }, { name = \"b\", file = \"b\" }, { name = \"c\", file = \"c\" }, { name = \"d\", file = \"d\" }, { name = \"e\", file = \"e\" }]\n",
+                "output = { file = \"o.csv\" }\n",
+                "",
                 false,
             ),
             (
@@ -183,7 +214,7 @@ mod tests {
     #[test]
     fn reads_a_task(rt: HostRuntime) -> Result<(), Fail> {
         let text =
-            b"input = [{ name = \"t\", file = \"t.csv\" }]\noutput = { file = \"o.csv\" }\nconstants = [7, \"x\"]\nops = 0\nleaves = 1\natoms = 1\n";
+            b"input = [{ name = \"t\", file = \"t.csv\" }]\noutput = { file = \"o.csv\" }\nconstants = [7, \"x\"]\naggregates = [\"max\", \"count distinct\"]\nops = 0\natoms = 3\n";
         let found = read_task_file(rt.alloc(), text)
             .ok()
             .ok_or("out of memory")?;
@@ -195,8 +226,14 @@ mod tests {
         assert!(rt; matches!(task.constants.as_slice(), [Value::Int(7), Value::Text(_)]));
         assert_eq!(rt;
             (task.inputs.len(), task.ops, task.leaves, task.atoms),
-            (1, 0, 1, 1)
+            (1, 0, 2, 3)
         );
+        let aggregates = AggSet {
+            count_distinct: true,
+            max: true,
+            ..AggSet::NONE
+        };
+        assert_eq!(rt; task.aggregates, aggregates);
         Ok(())
     }
 }

@@ -6,7 +6,7 @@ use Rattle.table_core.specs.Rows.{TableData}
 use Rattle.table_core.specs.declared.task.TaskParts.{TaskParts}
 use Rattle.task_file.specs.declared.input.InputFile.{InputFile}
 use Rattle.task_file.specs.declared.task.TaskFile.{TaskFile}
-use Rattle.task_read.specs.Task.{table_told, input_told, inputs_told, parts_told, plan_told, task_told, built, IsReadAsInput, IsReadAsTable, IsRead}
+use Rattle.task_read.specs.Task.{table_told, input_told, inputs_told, parts_told, plan_told, task_told, limited, IsReadAsInput, IsReadAsTable, IsRead}
 use Rattle.task_read.specs.declared.fault.TaskEnd.{TaskEnd}
 use Rattle.task_read.specs.declared.fault.TaskEnd.TheVariants.{ReadFault, WrongForm, OutOfMemory}
 use Rattle.task_read.specs.Told.{Told, untold, refused, ready, ◌>>=◌, found, WhenReady}
@@ -97,17 +97,17 @@ inputs_fault told later before between after inputs input others name r table li
 
 -- the task file was read, its tables, and then the task was made
 pub task_reads : (told later : Tells) (name : List ℕ) (plan : TaskFile) (parts : TaskParts) (r : Result TaskParts TaskEnd)
-    → later ≡ told → WhenReady (plan_told (told name)) (λ y. plan ≡ y) → WhenReady (parts_told later plan) (λ y. parts ≡ y) → Reads (λ t. t) (found (built parts)) r → Reads (λ t. t) (task_told told name) r
+    → later ≡ told → WhenReady (plan_told (told name)) (λ y. plan ≡ y) → WhenReady (parts_told later plan) (λ y. parts ≡ y) → Reads (λ t. t) (found (limited parts)) r → Reads (λ t. t) (task_told told name) r
 task_reads told later name plan parts (Ok task) same is made reads =
-    ready_next (plan_told (told name)) (λ p. parts_told told p >>= (λ q. found (built q))) plan (λ y. task ≡ y) is (ready_next (parts_told told plan) (λ q. found (built q)) parts (λ y. task ≡ y) (rw same at made) reads)
+    ready_next (plan_told (told name)) (λ p. parts_told told p >>= (λ q. found (limited q))) plan (λ y. task ≡ y) is (ready_next (parts_told told plan) (λ q. found (limited q)) parts (λ y. task ≡ y) (rw same at made) reads)
 task_reads told later name plan parts (Err end) same is made reads =
-    refuses_next (plan_told (told name)) (λ p. parts_told told p >>= (λ q. found (built q))) plan end is (refuses_next (parts_told told plan) (λ q. found (built q)) parts end (rw same at made) reads)
+    refuses_next (plan_told (told name)) (λ p. parts_told told p >>= (λ q. found (limited q))) plan end is (refuses_next (parts_told told plan) (λ q. found (limited q)) parts end (rw same at made) reads)
 
 -- the task file was read, and its tables were not
 pub task_refuses : (told later : Tells) (name : List ℕ) (plan : TaskFile) (end : TaskEnd)
     → later ≡ told → WhenReady (plan_told (told name)) (λ y. plan ≡ y) → Refuses (parts_told later plan) end → Refuses (task_told told name) end
 task_refuses told later name plan end same is refuses =
-    refuses_next (plan_told (told name)) (λ p. parts_told told p >>= (λ q. found (built q))) plan end is (refuses_first (parts_told told plan) (λ q. found (built q)) end (rw same at refuses))
+    refuses_next (plan_told (told name)) (λ p. parts_told told p >>= (λ q. found (limited q))) plan end is (refuses_first (parts_told told plan) (λ q. found (limited q)) end (rw same at refuses))
 
 -- a fact of a file that couldn't be read, from another
 end_map : (end : TaskEnd) (P Q : List ℕ → Type 0) → ((f : List ℕ) → P f → Q f) → IfReadFault end P → IfReadFault end Q

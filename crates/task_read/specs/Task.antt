@@ -1,8 +1,8 @@
 -- The task that a folder tells.
-use Rattle.std.specs.Prelude.{◌≡◌, ℕ, ◌⊎◌, Bool, false, ◌&&◌, ◌==◌, nat_le, List, [], ◌∷◌, length, codes, Option, Some, None, if◌then◌else◌}
+use Rattle.std.specs.Prelude.{◌≡◌, ℕ, ◌⊎◌, nat_le, List, [], ◌∷◌, length, codes, Option, Some, None, if◌then◌else◌}
+use Rattle.std.specs.Option.{is_none}
 use Rattle.table_core.specs.Rows.{TableData}
 use Rattle.table_core.specs.Limits.{first_bad_part}
-use Rattle.table_core.specs.declared.agg_set.AggSet.{AggSet}
 use Rattle.table_core.specs.declared.task.TaskParts.{TaskParts}
 use Rattle.task_file.specs.TaskFile.{task_file_of}
 use Rattle.task_file.specs.declared.input.InputFile.{InputFile}
@@ -36,17 +36,13 @@ output_name = codes "out"
 abbrev pub output_told : (List ℕ → Option (List ℕ)) → TaskFile → Told TableData
 output_told told plan = table_told output_name 4 64 (told plan.output)
 
--- no aggregate
-abbrev pub no_aggregates : AggSet
-no_aggregates = record { count_all = false; count = false; count_distinct = false; sum = false; min = false; max = false }
-
 -- the parts of a task, with what stands where the task file doesn't say
 abbrev pub parts_of : TaskFile → List TableData → TableData → TaskParts
 parts_of plan inputs output = record {
   inputs = inputs;
   output = output;
   constants = plan.constants;
-  aggregates = no_aggregates;
+  aggregates = plan.aggregates;
   ops = plan.ops;
   leaves = plan.leaves;
   atoms = plan.atoms;
@@ -58,18 +54,9 @@ parts_of plan inputs output = record {
 abbrev pub parts_told : (List ℕ → Option (List ℕ)) → TaskFile → Told TaskParts
 parts_told told plan = inputs_told told plan.inputs >>= (λ inputs. output_told told plan >>= (λ output. ready (parts_of plan inputs output)))
 
--- whether a task is of the form that is built so far: one input, at most one operator, one leaf and one atom
-abbrev pub is_built : TaskParts → Bool
-is_built parts = (length parts.inputs == 1) && (nat_le parts.ops 1 && ((parts.leaves == 1) && (parts.atoms == 1)))
-
--- the parts, where none of them is out of its limits
-abbrev pub limited : TaskParts → Option ℕ → Option TaskParts
-limited parts None = Some parts
-limited parts (Some bad) = None
-
--- the parts, where they are of the form and within the limits of a task
-abbrev pub built : TaskParts → Option TaskParts
-built parts = if is_built parts then limited parts (first_bad_part parts) else None
+-- the parts, where none of them is out of the limits of a task
+abbrev pub limited : TaskParts → Option TaskParts
+limited parts = if is_none (first_bad_part parts) then Some parts else None
 
 -- the task file, read
 abbrev pub plan_told : Option (List ℕ) → Told TaskFile
@@ -77,7 +64,7 @@ plan_told file = bytes_told file >>= (λ bytes. found (task_file_of bytes))
 
 -- the task of a task file
 abbrev pub task_told : (List ℕ → Option (List ℕ)) → List ℕ → Told TaskParts
-task_told told file = plan_told (told file) >>= (λ plan. parts_told told plan >>= (λ parts. found (built parts)))
+task_told told file = plan_told (told file) >>= (λ plan. parts_told told plan >>= (λ parts. found (limited parts)))
 
 -- a file is that of one of these inputs, and the inputs before it are as they have to be
 abbrev pub IsReadAsInput : (List ℕ → Option (List ℕ)) → List InputFile → List ℕ → Type 0

@@ -1,7 +1,7 @@
 use std::alloc::AllocError;
 use value_core::{Bytes, OutOfMemory};
 
-/// Why a task isn't read: a file that can't be read, a form that isn't built yet, or no memory.
+/// Why a task isn't read: a file that can't be read, what isn't as a task has to be, or no memory.
 #[derive(Debug, Drop)]
 pub enum TaskEnd {
     ReadFault { file: Bytes },

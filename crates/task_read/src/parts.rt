@@ -8,7 +8,7 @@ use crate::tables::{read_inputs, read_table_file};
 use io_edge::Folder;
 use sqlite_items::Items;
 use std::alloc::Global;
-use table_core::{AggSet, TaskParts};
+use table_core::TaskParts;
 use task_file::TaskFile;
 use value_core::Word;
 
@@ -43,7 +43,7 @@ pub fn read_parts<F: Folder>(
         inputs,
         output,
         constants: plan.constants,
-        aggregates: AggSet::NONE,
+        aggregates: plan.aggregates,
         ops: plan.ops,
         leaves: plan.leaves,
         atoms: plan.atoms,

@@ -1,8 +1,8 @@
-ghost use Rattle.std.specs.Prelude.{◌≡◌, ◌≤◌, ℕ, List, length, true, IfErr, IfOk};
+ghost use Rattle.std.specs.Prelude.{◌≡◌, ◌≤◌, ℕ, List, IfErr};
 ghost use Rattle.io_edge.specs.Rose.{Rose};
 ghost use Rattle.task_read.specs.Told.{found};
 ghost use Rattle.task_read.specs.Reading.{Reads, IfReadFault, UnlessReadFault};
-ghost use Rattle.task_read.specs.Task.{plan_told, task_told, is_built, built, IsRead};
+ghost use Rattle.task_read.specs.Task.{plan_told, task_told, limited, IsRead};
 
 use crate::fault::TaskEnd;
 use crate::file::read_file;
@@ -28,37 +28,22 @@ fn read_plan<F: Folder>(alloc: Global, folder: &mut F, name: &Bytes) -> Result<T
     }
 }
 
-// Whether a task is of the form that is built so far.
-fn is_built(parts: &TaskParts) -> bool
-    ensures { result ≡ is_built parts.now }
-{
-    if parts.inputs.len() != 1 || parts.ops > 1 {
-        return false;
-    }
-    parts.leaves == 1 && parts.atoms == 1
-}
-
-// The task of these parts, where they are within their limits and of the form.
-fn built(parts: TaskParts) -> Result<Task, TaskEnd>
-    ensures told { Reads (λ task. task) (found (built parts)) result }
-    ensures form { IfOk result (λ task. is_built task ≡ true) }
+// The task of these parts, where they are within their limits.
+fn limited(parts: TaskParts) -> Result<Task, TaskEnd>
+    ensures told { Reads (λ task. task) (found (limited parts)) result }
     ensures read { IfErr result (λ end. end ≡ TaskEnd.WrongForm) }
 {
-    if !is_built(&parts) {
-        return Err(TaskEnd::WrongForm);
-    }
     match Task::new(parts) {
         Ok(task) => Ok(task),
         Err(_) => Err(TaskEnd::WrongForm),
     }
 }
 
-/// The task of a task file, of the form that is built so far.
+/// The task of a task file.
 ///
 /// A read that fails ends it with the name of that file, and nothing is read after it.
 pub fn read_task<F: Folder>(alloc: Global, folder: &mut F, name: &Bytes) -> Result<Task, TaskEnd>
     ensures told { Reads (λ task. task) (task_told (F.told folder.old) name.now) result }
-    ensures form { IfOk result (λ task. is_built task ≡ true) }
     ensures read { IfErr result (λ end. IfReadFault end (λ f. IsRead (F.told folder.old) name.now f × Rose (F.faults folder.old f) (F.faults folder.new f))) }
     ensures same { (n : List ℕ) → F.told folder.new n ≡ F.told folder.old n }
     ensures kept { (n : List ℕ) → F.faults folder.old n ≤ F.faults folder.new n }
@@ -66,7 +51,7 @@ pub fn read_task<F: Folder>(alloc: Global, folder: &mut F, name: &Bytes) -> Resu
 {
     let plan = read_plan(alloc, folder, name)?;
     match read_parts(alloc, folder, plan) {
-        Ok(parts) => built(parts),
+        Ok(parts) => limited(parts),
         Err(end) => Err(end),
     }
 }

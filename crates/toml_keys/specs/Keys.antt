@@ -43,10 +43,6 @@ text_of longest value = as_str value >>= (λ bytes. when (within 1 longest (leng
 unfoldable pub array_of : ℕ → ℕ → Data → Option (List Data)
 array_of least most value = option_map list_of (as_array value) >>= (λ items. when (within least most (length items)) items)
 
--- a whole number at a key
-unfoldable pub number_at : List ℕ → ℕ → ℕ → Members → Option ℕ
-number_at key low high members = get_member key members >>= number_of low high
-
 -- a text at a key
 unfoldable pub text_at : List ℕ → ℕ → Members → Option (List ℕ)
 text_at key longest members = get_member key members >>= text_of longest
@@ -64,7 +60,11 @@ abbrev pub read_or : {A : Type 0} → A → (Data → Option A) → Option Data 
 read_or default read None = Some default
 read_or default read (Some value) = read value
 
--- the key is one of these
+-- a whole number at a key, or the default where the key is absent
+unfoldable pub number_or : List ℕ → ℕ → ℕ → ℕ → Members → Option ℕ
+number_or key default low high members = read_or default (number_of low high) (get_member key members)
+
+-- whether a key is one of these
 abbrev pub is_among : List (List ℕ) → List ℕ → Bool
 is_among allowed key = list_any (bytes_eq key) allowed
 

@@ -1,7 +1,7 @@
 ghost use Rattle.std.specs.Prelude.{◌≡◌, ◌≤◌, IfSome, length, map, option_map};
 ghost use Rattle.toml.specs.Data.{get_member};
 ghost use Rattle.toml.specs.View.{table_view, view};
-ghost use Rattle.toml_keys.specs.Keys.{array_at, is_among, number_at, only_keys, table_at, text_at};
+ghost use Rattle.toml_keys.specs.Keys.{array_at, is_among, number_or, only_keys, table_at, text_at};
 
 use crate::values::{array_of, number_of, text_of};
 use toml::{Table, Value};
@@ -13,12 +13,15 @@ pub fn value_at<'a>(table: &'a Table, key: &str) -> Option<&'a Value>
     table.get(key)
 }
 
-/// The whole number at a key, where it lies within the two bounds.
-#[tactic(auto, unfolding(crate::specs::Keys::number_at))]
-pub fn number_at(table: &Table, key: &str, low: u32, high: u32) -> Option<u32>
-    ensures { result ≡ number_at key.now low high (table_view table.now) }
+/// The whole number at a key, where it lies within the two bounds, or the default where the key is absent.
+#[tactic(auto, unfolding(crate::specs::Keys::number_or))]
+pub fn number_or(table: &Table, key: &str, default: u32, low: u32, high: u32) -> Option<u32>
+    ensures { result ≡ number_or key.now default low high (table_view table.now) }
 {
-    number_of(value_at(table, key)?, low, high)
+    match value_at(table, key) {
+        None => Some(default),
+        Some(value) => number_of(value, low, high),
+    }
 }
 
 /// The bytes of the text at a key, where it has 1 to `longest`.
@@ -46,8 +49,8 @@ pub fn table_at<'a>(table: &'a Table, key: &str) -> Option<&'a Table>
     value_at(table, key)?.as_table()
 }
 
-// Whether the key is one of these.
-fn is_among(key: &str, allowed: &[&str]) -> bool
+/// Whether the key is one of these.
+pub fn is_among(key: &str, allowed: &[&str]) -> bool
     ensures { result ≡ is_among (map (λ name. name.now) allowed.now) key.now }
 {
     allowed.iter().any(|name| key == *name)
@@ -73,10 +76,11 @@ mod tests {
         let table = found.ok_or("no table")?;
         let inner = table_at(&table, "inner").ok_or("no inner table")?;
         let numbers = [
-            (number_at(&table, "size", 3, 3), Some(3)),
-            (number_at(&table, "size", 0, 2), None),
-            (number_at(&table, "name", 0, 9), None),
-            (number_at(inner, "size", 0, 9), None),
+            (number_or(&table, "size", 2, 3, 3), Some(3)),
+            (number_or(&table, "size", 2, 0, 2), None),
+            (number_or(&table, "name", 2, 0, 9), None),
+            (number_or(inner, "size", 2, 0, 9), None),
+            (number_or(inner, "name", 2, 0, 9), Some(2)),
         ];
         for (found, wanted) in numbers {
             assert_eq!(rt; found, wanted);
@@ -88,6 +92,7 @@ mod tests {
             Some(2)
         );
         assert!(rt; array_at(&table, "list", 3, 9).is_none());
+        assert!(rt; is_among("size", &["name", "size"]));
         assert!(rt; has_only(inner, &["name", "size"]));
         assert!(rt; !has_only(&table, &["name", "size", "list"]));
         assert!(rt; read_document(rt.alloc(), b"name = \"\xff\"\n")?.is_none());

@@ -1,4 +1,5 @@
 pub mod Command
+pub mod Form
 pub mod Line
 pub mod Listing
 pub mod Promise

@@ -1,12 +1,13 @@
 -- What a run does that has its task.
-use Rattle.std.specs.Prelude.{◌≡◌, ℕ, ◌<◌, ◌==◌, List, [], length, Option, Some, None, if◌then◌else◌}
+use Rattle.std.specs.Prelude.{◌≡◌, ℕ, ◌<◌, ◌==◌, ◌⊎◌, Bool, true, false, List, [], length, Option, Some, None, if◌then◌else◌}
 use Rattle.io_edge.specs.Rose.{Rose}
 use Rattle.io_edge.specs.Gained.{Gained, GainedFront}
 use Rattle.table_core.specs.declared.task.TaskParts.{TaskParts}
 use Rattle.query_core.specs.Answers.{answers}
 use Rattle.sql_print.specs.Text.{text}
 use Rattle.task_read.specs.Told.{WhenReady, MayRefuse}
-use Rattle.task_read.specs.Task.{task_told, IsRead}
+use Rattle.task_read.specs.Task.{IsRead}
+use Rattle.top_call.specs.Form.{built_task}
 use Rattle.top_call.specs.declared.end.End.{End}
 use Rattle.top_call.specs.declared.end.End.TheVariants.{Listed, Empty, Usage, ReadFault, WriteFault, OutOfMemory, NotYet}
 
@@ -24,15 +25,20 @@ Prints task old new before now WriteFault = GainedFront old new (text task) × R
 Prints task old new before now OutOfMemory = new ≡ old
 Prints task old new before now NotYet = ⊥
 
+-- what is done with a task, beside its end: one of the form that is built is listed, and any other is refused
+abbrev pub ListsOrRefuses : Bool → TaskParts → Option (List ℕ) → Option (List ℕ) → ℕ → ℕ → End → Type 0
+ListsOrRefuses true task old new before now end = Prints task old new before now end
+ListsOrRefuses false task old new before now end = ((end ≡ NotYet) ⊎ (end ≡ OutOfMemory)) × (new ≡ old)
+
 -- what a run of a task file does to folder and sink, beside its end
 abbrev pub Runs : (List ℕ → Option (List ℕ)) → (List ℕ → ℕ) → (List ℕ → ℕ) → List ℕ → Option (List ℕ) → Option (List ℕ) → ℕ → ℕ → End → Type 0
-Runs told unread unread_now file old new before now (Listed count) = WhenReady (task_told told file) (λ task. Prints task old new before now (Listed count))
-Runs told unread unread_now file old new before now Empty = WhenReady (task_told told file) (λ task. Prints task old new before now Empty)
+Runs told unread unread_now file old new before now (Listed count) = WhenReady (built_task told file) (λ task. Prints task old new before now (Listed count))
+Runs told unread unread_now file old new before now Empty = WhenReady (built_task told file) (λ task. Prints task old new before now Empty)
 Runs told unread unread_now file old new before now Usage = ⊥
 Runs told unread unread_now file old new before now (ReadFault name) = (IsRead told file name × Rose (unread name) (unread_now name)) × (new ≡ old)
-Runs told unread unread_now file old new before now WriteFault = WhenReady (task_told told file) (λ task. Prints task old new before now WriteFault) × Rose before now
+Runs told unread unread_now file old new before now WriteFault = WhenReady (built_task told file) (λ task. Prints task old new before now WriteFault) × Rose before now
 Runs told unread unread_now file old new before now OutOfMemory = new ≡ old
-Runs told unread unread_now file old new before now NotYet = MayRefuse (task_told told file) × (new ≡ old)
+Runs told unread unread_now file old new before now NotYet = MayRefuse (built_task told file) × (new ≡ old)
 
 -- what a run of words does, beside its end
 abbrev pub RunsWords : (List ℕ → Option (List ℕ)) → (List ℕ → ℕ) → (List ℕ → ℕ) → Option (List ℕ) → Option (List ℕ) → Option (List ℕ) → ℕ → ℕ → End → Type 0

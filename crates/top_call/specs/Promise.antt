@@ -4,15 +4,16 @@ use Rattle.io_edge.specs.Rose.{Rose}
 use Rattle.table_core.specs.declared.task.TaskParts.{TaskParts}
 use Rattle.query_core.specs.Answers.{answers}
 use Rattle.task_read.specs.Told.{Told, untold, refused, ready}
-use Rattle.task_read.specs.Task.{task_told, IsRead}
+use Rattle.task_read.specs.Task.{IsRead}
 use Rattle.top_call.specs.Command.{command}
+use Rattle.top_call.specs.Form.{built_task}
 use Rattle.top_call.specs.declared.end.End.{End}
 use Rattle.top_call.specs.declared.end.End.TheVariants.{Listed, Empty, Usage, ReadFault, WriteFault, OutOfMemory, NotYet}
 
--- the task that the words ask for, as the folder tells it; refused where the words aren't understood
+-- the task that the words ask for, as the folder tells it; refused where the words aren't understood or it isn't of the form that is built
 abbrev pub asked_file : (List ℕ → Option (List ℕ)) → Option (List ℕ) → Told TaskParts
 asked_file told None = refused
-asked_file told (Some file) = task_told told file
+asked_file told (Some file) = built_task told file
 
 abbrev pub asked : (List ℕ → Option (List ℕ)) → List (List ℕ) → Told TaskParts
 asked told words = asked_file told (command words)

@@ -3,6 +3,7 @@
 
 mod command;
 mod end;
+mod form;
 mod line;
 mod listing;
 mod run;

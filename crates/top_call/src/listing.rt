@@ -1,13 +1,15 @@
 ghost use Rattle.std.specs.Prelude.{◌≡◌, true};
-ghost use Rattle.task_read.specs.Task.{is_built};
-ghost use Rattle.top_call.specs.Listing.{Prints, end_of};
+ghost use Rattle.top_call.specs.Form.{is_built};
+ghost use Rattle.top_call.specs.Listing.{Prints, ListsOrRefuses, end_of};
 
 use crate::end::End;
+use crate::form::is_built;
 use io_edge::{Sink, WriteFault, write_all};
 use plain_search::plain;
 use sql_print::text;
 use std::alloc::Global;
 use table_core::Task;
+use value_core::OutOfMemory;
 
 // The end of a run that wrote the text of so many answers.
 fn end_of(count: usize) -> End
@@ -22,8 +24,8 @@ fn end_of(count: usize) -> End
     }
 }
 
-/// Lists the answers of a task and writes its text.
-pub fn list<K: Sink>(alloc: Global, task: &Task, out: &mut K) -> End
+// Lists the answers of a task and writes its text.
+fn list<K: Sink>(alloc: Global, task: &Task, out: &mut K) -> End
     requires { is_built task.now ≡ true }
     ensures { Prints task.now (K.written out.old) (K.written out.new) (K.faults out.old) (K.faults out.new) result }
 {
@@ -36,5 +38,16 @@ pub fn list<K: Sink>(alloc: Global, task: &Task, out: &mut K) -> End
     match write_all(out, text.as_slice()) {
         Ok(()) => end_of(answers.len()),
         Err(WriteFault) => End::WriteFault,
+    }
+}
+
+/// Lists the answers of a task and writes its text, where it is of the form that is built.
+pub fn answer<K: Sink>(alloc: Global, task: &Task, out: &mut K) -> End
+    ensures { ListsOrRefuses (is_built task.now) task.now (K.written out.old) (K.written out.new) (K.faults out.old) (K.faults out.new) result }
+{
+    match is_built(alloc, task) {
+        Ok(true) => list(alloc, task, out),
+        Ok(false) => End::NotYet,
+        Err(OutOfMemory) => End::OutOfMemory,
     }
 }

@@ -13,7 +13,7 @@ ghost use Rattle.top_call.specs.declared.end.End.TheVariants.{Listed, Empty, Usa
 use crate::command::command;
 use crate::end::End;
 use crate::line::write_line;
-use crate::listing::list;
+use crate::listing::answer;
 use io_edge::{Folder, Gate, Sink};
 use std::alloc::Global;
 use std::thread::Threads;
@@ -26,7 +26,7 @@ fn run_file<F: Folder, K: Sink>(alloc: Global, file: &Bytes, folder: &mut F, out
     ensures still { UnlessReadFault result ((n : List ℕ) → F.faults folder.new n ≡ F.faults folder.old n) }
 {
     match read_task(alloc, folder, file) {
-        Ok(task) => list(alloc, &task, out),
+        Ok(task) => answer(alloc, &task, out),
         Err(TaskEnd::ReadFault { file }) => End::ReadFault { file },
         Err(TaskEnd::WrongForm) => End::NotYet,
         Err(TaskEnd::OutOfMemory) => End::OutOfMemory,

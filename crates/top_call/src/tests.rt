@@ -16,13 +16,18 @@ fn file(rt: HostRuntime, name: &str, text: &str) -> Result<(Bytes, Bytes), OutOf
     Ok((name, Bytes::of(rt.alloc(), text.as_bytes())?))
 }
 
-// The files of a task that keeps the second row.
-fn files(rt: HostRuntime) -> Result<Vec<(Bytes, Bytes)>, Fail> {
+// The files of a task of this text.
+fn files_of(rt: HostRuntime, task: &str) -> Result<Vec<(Bytes, Bytes)>, Fail> {
     let mut files = Vec::new(rt.alloc());
-    files.push(file(rt, "t.toml", TASK)?)?;
+    files.push(file(rt, "t.toml", task)?)?;
     files.push(file(rt, "t.csv", "id,v\n1,10\n2,20\n")?)?;
     files.push(file(rt, "out.csv", "id,v\n2,20\n")?)?;
     Ok(files)
+}
+
+// The files of a task that keeps the second row.
+fn files(rt: HostRuntime) -> Result<Vec<(Bytes, Bytes)>, Fail> {
+    files_of(rt, TASK)
 }
 
 // A folder of these files, whose read of this number fails; none fails at 0.
@@ -183,6 +188,28 @@ fn lines_fail(rt: HostRuntime) -> Result<(), Fail> {
         );
         assert_eq!(rt; err.bytes().len() as u64 + 1, number);
         assert!(rt; line.starts_with(err.bytes()));
+    }
+    Ok(())
+}
+
+#[test]
+fn tasks_that_are_not_built(rt: HostRuntime) -> Result<(), Fail> {
+    let table = "[[input]]\nname = \"t\"\nfile = \"t.csv\"\n[output]\nfile = \"out.csv\"\n";
+    for numbers in [
+        "ops = 2\nleaves = 1\natoms = 1\n",
+        "ops = 1\nleaves = 2\natoms = 1\n",
+        "ops = 1\nleaves = 1\n",
+        "ops = 1\nleaves = 1\natoms = 1\naggregates = [\"sum\"]\n",
+        "ops = 5\nleaves = 1\natoms = 1\n",
+    ] {
+        let task = format!(in rt.alloc(); "{numbers}{table}")?;
+        let mut folder = SureFolder::new(files_of(rt, &task)?);
+        let mut out = sink(rt, 1000, 100, 0)?;
+        let mut err = sink(rt, 1000, 100, 0)?;
+        let status = run(&rt, rt, &["run", "t.toml"], &mut folder, &mut out, &mut err)?;
+        assert_eq!(rt; status, 20, "{numbers}");
+        assert_eq!(rt; out.bytes(), b"".as_slice());
+        assert_eq!(rt; err.bytes(), b"scythe: not built yet\n".as_slice());
     }
     Ok(())
 }

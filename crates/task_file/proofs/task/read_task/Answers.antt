@@ -8,4 +8,4 @@ pub returns : goal.returns
 unfolding task_of
 returns c =
     let known : only_keys task_keys (table_view c.args.table.now) ≡ true = search rules in
-    rw (known, c.in_ok-inputs.ensures, c.in_ok-output.ensures, c.in_ok-constants.ensures, c.in_ok-ops.ensures, c.in_ok-leaves.ensures, c.in_ok-atoms.ensures)
+    rw (known, c.in_ok-inputs.ensures, c.in_ok-output.ensures, c.in_ok-constants.ensures, c.in_ok-aggregates.ensures, c.in_ok-ops.ensures, c.in_ok-leaves.ensures, c.in_ok-atoms.ensures)

@@ -7,7 +7,7 @@ returns-in-Ok-clause-told g c =
     let told = g.F.Folder.told c.args.folder.now in
     let later = g.F.Folder.told c.read_plan.new.folder in
     let same : later ≡ told = λ i n. c.in_ok-plan.ensures.same n i in
-    task_reads told later c.args.name.now c.in_ok-plan.plan c.in-Ok.parts c.built.result same c.in_ok-plan.ensures.told c.in-Ok.ensures.told c.built.ensures.told
+    task_reads told later c.args.name.now c.in_ok-plan.plan c.in-Ok.parts c.limited.result same c.in_ok-plan.ensures.told c.in-Ok.ensures.told c.limited.ensures.told
 
 pub returns-in-Err-clause-told : goal.returns-in-Err-clause-told
 returns-in-Err-clause-told g c =
