@@ -43,10 +43,6 @@ text_of longest value = as_str value >>= (λ bytes. when (within 1 longest (leng
 unfoldable pub array_of : ℕ → ℕ → Data → Option (List Data)
 array_of least most value = option_map list_of (as_array value) >>= (λ items. when (within least most (length items)) items)
 
--- a whole number at a key
-unfoldable pub number_at : List ℕ → ℕ → ℕ → Members → Option ℕ
-number_at key low high members = get_member key members >>= number_of low high
-
 -- a text at a key
 unfoldable pub text_at : List ℕ → ℕ → Members → Option (List ℕ)
 text_at key longest members = get_member key members >>= text_of longest

@@ -1,7 +1,7 @@
 ghost use Rattle.std.specs.Prelude.{◌≡◌, ◌≤◌, IfSome, length, map, option_map};
 ghost use Rattle.toml.specs.Data.{get_member};
 ghost use Rattle.toml.specs.View.{table_view, view};
-ghost use Rattle.toml_keys.specs.Keys.{array_at, is_among, number_at, number_or, only_keys, table_at, text_at};
+ghost use Rattle.toml_keys.specs.Keys.{array_at, is_among, number_or, only_keys, table_at, text_at};
 
 use crate::values::{array_of, number_of, text_of};
 use toml::{Table, Value};
@@ -11,14 +11,6 @@ pub fn value_at<'a>(table: &'a Table, key: &str) -> Option<&'a Value>
     ensures { option_map (λ value. view value.now) result ≡ get_member key.now (table_view table.now) }
 {
     table.get(key)
-}
-
-/// The whole number at a key, where it lies within the two bounds.
-#[tactic(auto, unfolding(crate::specs::Keys::number_at))]
-pub fn number_at(table: &Table, key: &str, low: u32, high: u32) -> Option<u32>
-    ensures { result ≡ number_at key.now low high (table_view table.now) }
-{
-    number_of(value_at(table, key)?, low, high)
 }
 
 /// The whole number at a key, where it lies within the two bounds, or the default where the key is absent.
@@ -84,13 +76,11 @@ mod tests {
         let table = found.ok_or("no table")?;
         let inner = table_at(&table, "inner").ok_or("no inner table")?;
         let numbers = [
-            (number_at(&table, "size", 3, 3), Some(3)),
-            (number_at(&table, "size", 0, 2), None),
-            (number_at(&table, "name", 0, 9), None),
-            (number_at(inner, "size", 0, 9), None),
-            (number_or(&table, "size", 2, 0, 9), Some(3)),
-            (number_or(inner, "name", 2, 0, 9), Some(2)),
+            (number_or(&table, "size", 2, 3, 3), Some(3)),
+            (number_or(&table, "size", 2, 0, 2), None),
+            (number_or(&table, "name", 2, 0, 9), None),
             (number_or(inner, "size", 2, 0, 9), None),
+            (number_or(inner, "name", 2, 0, 9), Some(2)),
         ];
         for (found, wanted) in numbers {
             assert_eq!(rt; found, wanted);

@@ -9,7 +9,7 @@ use Rattle.task_read.specs.Told.{Told, untold, refused, ready, ◌>>=◌, WhenRe
 use Rattle.task_read.specs.Task.{task_told}
 use Rattle.task_read.proofs.ReadingLaws.{ready_then}
 use Rattle.top_call.specs.Form.{is_built, built, built_task}
-use Rattle.top_call.specs.Listing.{end_of, Prints, Answers, Runs, RunsWords}
+use Rattle.top_call.specs.Listing.{end_of, Prints, ListsOrRefuses, Runs, RunsWords}
 use Rattle.top_call.specs.Promise.{asked_file, IfReady}
 use Rattle.top_call.specs.declared.end.End.{End}
 use Rattle.top_call.specs.declared.end.End.TheVariants.{Listed, Empty, Usage, ReadFault, WriteFault, OutOfMemory, NotYet}
@@ -58,7 +58,7 @@ runs_refused told unread unread_now file old new before now end refuses (inr e) 
 
 -- a run that read its task does what is done with that task
 pub runs_task : (form : Bool) (told : List ℕ → Option (List ℕ)) (unread unread_now : List ℕ → ℕ) (file : List ℕ) (old new : Option (List ℕ)) (before now : ℕ) (task : TaskParts) (end : End)
-    → is_built task ≡ form → WhenReady (task_told told file) (λ y. task ≡ y) → Answers form task old new before now end → Runs told unread unread_now file old new before now end
+    → is_built task ≡ form → WhenReady (task_told told file) (λ y. task ≡ y) → ListsOrRefuses form task old new before now end → Runs told unread unread_now file old new before now end
 runs_task true told unread unread_now file old new before now task end form is answers =
     runs_listed told unread unread_now file old new before now task end (built_ready (task_told told file) task is form) answers
 runs_task false told unread unread_now file old new before now task end form is answers =

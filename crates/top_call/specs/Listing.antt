@@ -26,9 +26,9 @@ Prints task old new before now OutOfMemory = new ≡ old
 Prints task old new before now NotYet = ⊥
 
 -- what is done with a task, beside its end: one of the form that is built is listed, and any other is refused
-abbrev pub Answers : Bool → TaskParts → Option (List ℕ) → Option (List ℕ) → ℕ → ℕ → End → Type 0
-Answers true task old new before now end = Prints task old new before now end
-Answers false task old new before now end = ((end ≡ NotYet) ⊎ (end ≡ OutOfMemory)) × (new ≡ old)
+abbrev pub ListsOrRefuses : Bool → TaskParts → Option (List ℕ) → Option (List ℕ) → ℕ → ℕ → End → Type 0
+ListsOrRefuses true task old new before now end = Prints task old new before now end
+ListsOrRefuses false task old new before now end = ((end ≡ NotYet) ⊎ (end ≡ OutOfMemory)) × (new ≡ old)
 
 -- what a run of a task file does to folder and sink, beside its end
 abbrev pub Runs : (List ℕ → Option (List ℕ)) → (List ℕ → ℕ) → (List ℕ → ℕ) → List ℕ → Option (List ℕ) → Option (List ℕ) → ℕ → ℕ → End → Type 0
