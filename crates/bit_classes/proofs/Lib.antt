@@ -1,8 +1,10 @@
 pub mod ClassLaws
 pub mod JoinLaws
+pub mod KnownLaws
 pub mod PartLaws
 pub mod PredLaws
 pub mod SplitLaws
 pub mod ThinLaws
 pub mod ToldLaws
+pub mod TripleLaws
 pub mod WalkLaws

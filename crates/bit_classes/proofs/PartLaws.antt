@@ -1,16 +1,17 @@
 -- What is seen in two parts.
-use Rattle.std.proofs.Common.{Option, ◌≡◌, refl, sym, ◌∙◌, ℕ, ◌+◌, ◌*◌, ◌≤◌, Bool, false, nat_le, if◌then◌else◌, le-leb, List, [], ◌++◌, length, Result, Ok, Err, arith, length-append}
+use Rattle.std.proofs.Common.{◌∷◌, Option, ◌≡◌, refl, sym, ◌∙◌, ℕ, ◌+◌, ◌*◌, ◌≤◌, Bool, false, nat_le, if◌then◌else◌, le-leb, List, [], ◌++◌, length, Result, Ok, Err, arith, length-append}
 use Rattle.std.specs.List.{enumerate_from}
 use Rattle.std.proofs.lemmas.List.{length-map, append-nil}
-use Rattle.predicate_core.specs.Atoms.{pairs, triples}
+use Rattle.predicate_core.specs.Atoms.{pairs}
 use Rattle.predicate_core.specs.Counts.{pair_count, triple_count}
-use Rattle.predicate_core.proofs.NumberLaws.{length-pairs, length-triples}
+use Rattle.predicate_core.proofs.NumberLaws.{length-pairs}
+use Rattle.bit_classes.specs.declared.class.Class.{Class}
 use Rattle.bit_classes.specs.declared.class.ClassEnd.{ClassEnd}
 use Rattle.bit_classes.specs.declared.join.Join.{Join}
 use Rattle.bit_classes.specs.declared.join.Join.TheVariants.{And, Or}
-use Rattle.bit_classes.specs.Walk.{Walk, Sees, numbered, told_pairs, told_triples, told_more, joined_told}
+use Rattle.bit_classes.specs.Walk.{Walk, Sees, numbered, told_pairs, told_triples, told_under, classes_under, told_more, joined_told}
 use Rattle.bit_classes.proofs.WalkLaws.{sees_then, sees_stopped, sees_same}
-use Rattle.bit_classes.proofs.SplitLaws.{numbered_parts, enumerated_parts}
+use Rattle.bit_classes.proofs.SplitLaws.{numbered_parts, enumerated_parts, length-told_under}
 
 pub sees_parts : (a b c : Walk) (n m : ℕ) (xs ys : List (Option (List Bool))) (result : Result (Unit {0}) ClassEnd) → m ≡ n + length xs → Sees a (numbered n xs) b (Ok tt) → Sees b (numbered m ys) c result
     → Sees a (numbered n (xs ++ ys)) c result
@@ -27,8 +28,11 @@ sees_first_part a b c n xs ys end first =
 pub length-told_pairs : (join : Join) (rows : List (Option (List Bool))) → length (told_pairs join rows) ≡ pair_count (length rows)
 length-told_pairs join rows = length-map (pairs rows) (λ p. joined_told join p.0 p.1) ∙ length-pairs rows
 
-pub length-told_triples : (join : Join) (rows : List (Option (List Bool))) → length (told_triples join rows) ≡ triple_count (length rows)
-length-told_triples join rows = length-map (triples rows) (λ p. joined_told join (joined_told join p.0 p.1) p.2) ∙ length-triples rows
+pub length-told_triples : (join : Join) (classes : List Class) (rows : List (Option (List Bool))) → length (told_triples join classes rows) ≡ triple_count (length rows)
+length-told_triples join classes [] = refl
+length-told_triples join classes (m ∷ ms) =
+    let after = classes_under join classes m ms in
+    length-append (told_under join classes m ms) (told_triples join after ms) ∙ rw (length-told_under join classes m ms, length-told_triples join after ms) refl
 
 pub length-both_pairs : (rows : List (Option (List Bool))) → length (told_pairs And rows ++ told_pairs Or rows) ≡ 2 * pair_count (length rows)
 length-both_pairs rows = omega (arith, length-append (told_pairs And rows) (told_pairs Or rows), length-told_pairs And rows, length-told_pairs Or rows)
@@ -37,10 +41,10 @@ length-both_pairs rows = omega (arith, length-append (told_pairs And rows) (told
 pub more_of_two : (rows : List (Option (List Bool))) (bound : ℕ) → 2 ≤ bound → nat_le 3 bound ≡ false → told_more rows bound ≡ told_pairs And rows ++ told_pairs Or rows
 more_of_two rows bound enough few = rw (le-leb 2 bound enough, few) (append-nil _)
 
-pub more_of_three : (rows : List (Option (List Bool))) (bound : ℕ) → 2 ≤ bound → 3 ≤ bound → told_more rows bound ≡ (told_pairs And rows ++ told_pairs Or rows) ++ (told_triples And rows ++ told_triples Or rows)
+pub more_of_three : (rows : List (Option (List Bool))) (bound : ℕ) → 2 ≤ bound → 3 ≤ bound → told_more rows bound ≡ (told_pairs And rows ++ told_pairs Or rows) ++ (told_triples And [] rows ++ told_triples Or [] rows)
 more_of_three rows bound two three = rw (le-leb 2 bound two, le-leb 3 bound three) refl
 
-pub more_from_two : (rows : List (Option (List Bool))) (bound : ℕ) → 2 ≤ bound → told_more rows bound ≡ (told_pairs And rows ++ told_pairs Or rows) ++ (if nat_le 3 bound then told_triples And rows ++ told_triples Or rows else [])
+pub more_from_two : (rows : List (Option (List Bool))) (bound : ℕ) → 2 ≤ bound → told_more rows bound ≡ (told_pairs And rows ++ told_pairs Or rows) ++ (if nat_le 3 bound then told_triples And [] rows ++ told_triples Or [] rows else [])
 more_from_two rows bound two = rw (le-leb 2 bound two) refl
 
 -- rows and what comes after them

@@ -1,5 +1,5 @@
 -- The atoms whose vectors are new tell all that is new of two and three atoms.
-use Rattle.std.proofs.Common.{◌≡◌, refl, sym, ap, ◌∙◌, subst, ℕ, ◌+◌, ◌⊎◌, inl, inr, Bool, true, false, ◌||◌, nat_le, if◌then◌else◌, Option, Some, List, [], ◌∷◌, ◌++◌, length, map, replicate, Result, Ok, Err, arith}
+use Rattle.std.proofs.Common.{◌≡◌, refl, sym, ap, ◌∙◌, subst, ℕ, ◌+◌, ◌⊎◌, inl, inr, Bool, true, false, nat_le, if◌then◌else◌, Option, Some, List, [], ◌∷◌, ◌++◌, length, map, replicate, Result, Ok, Err, arith}
 use Rattle.std.specs.List.{All, enumerate_from}
 use Rattle.std.proofs.lemmas.Bool.{cases_Bool, false≢true}
 use Rattle.std.proofs.lemmas.List.{length-replicate}
@@ -7,66 +7,17 @@ use Rattle.std.proofs.lemmas.Bool.Decides.{nat_tests}
 use Rattle.std.proofs.lemmas.List.Elements.{All-cons, All-nil, All-head, All-tail}
 use Rattle.predicate_core.specs.Atoms.{pairs}
 use Rattle.predicate_core.proofs.OnceLists.{In, in_same}
-use Rattle.bit_rows.specs.Bits.{same_bits}
-use Rattle.bit_rows.proofs.PackLaws.{same_bits_decides}
 use Rattle.bit_classes.specs.declared.class.Class.{Class}
 use Rattle.bit_classes.specs.declared.class.ClassEnd.{ClassEnd}
 use Rattle.bit_classes.specs.declared.join.Join.{Join}
 use Rattle.bit_classes.specs.declared.join.Join.TheVariants.{And, Or}
-use Rattle.bit_classes.specs.Classes.{class_of}
 use Rattle.bit_classes.specs.Vectors.{joined, joined_pairs, joined_triples, more_vectors}
 use Rattle.bit_classes.specs.Walk.{Walk, Sees, HasWidth, is_known, with_vector, with_vectors, numbered, new_vectors, joined_told, told_pairs, told_triples, told_more}
-use Rattle.bit_classes.proofs.WalkLaws.{known_stays, new_stays}
-use Rattle.bit_classes.proofs.ClassLaws.{any-push}
-use Rattle.bit_classes.proofs.ThinLaws.{Thin, thin_wider, thin_append, thin_length, thin_pairs, thin_triples, in_front, in_back, in_mapped, two_in}
-use Rattle.bit_classes.proofs.JoinLaws.{joined_turned, joined_grouped, joined_own, full_and_is, full_or_is}
-
--- ---- what is known stays known
-
-either_true : (a b : Bool) → a ≡ true → (a || b) ≡ true
-either_true a b e = rw e refl
-
-or_true : (a b : Bool) → b ≡ true → (a || b) ≡ true
-or_true true b e = refl
-or_true false b e = e
-
-one_true : (a b : Bool) → (a || b) ≡ true → (a ≡ true) ⊎ (b ≡ true)
-one_true true b e = inl refl
-one_true false b e = inr e
-
-pub known_kept : (classes : List Class) (n : ℕ) (v w : List Bool) → is_known classes w ≡ true → is_known (with_vector classes (n, v)) w ≡ true
-known_kept classes n v w known =
-    elim (cases_Bool (is_known classes v)) [
-      | inl old ↦ rw (known_stays classes n v old) known
-      | inr new ↦ rw (new_stays classes n v new) (any-push (λ c. same_bits w c.bits) classes (class_of (n, v)) ∙ either_true (is_known classes w) (same_bits w v) known)
-    ]
-
-pub known_itself : (classes : List Class) (n : ℕ) (v : List Bool) → is_known (with_vector classes (n, v)) v ≡ true
-known_itself classes n v =
-    elim (cases_Bool (is_known classes v)) [
-      | inl old ↦ rw (known_stays classes n v old) old
-      | inr new ↦ rw (new_stays classes n v new) (any-push (λ c. same_bits v c.bits) classes (class_of (n, v)) ∙ or_true (is_known classes v) (same_bits v v) ((same_bits_decides v v).1 refl))
-    ]
-
--- what is known after a vector was known before, or is that vector
-pub known_before : (classes : List Class) (n : ℕ) (v w : List Bool) → is_known (with_vector classes (n, v)) w ≡ true → (is_known classes w ≡ true) ⊎ (w ≡ v)
-known_before classes n v w known =
-    elim (cases_Bool (is_known classes v)) [
-      | inl old ↦ inl (rw (known_stays classes n v old) at known)
-      | inr new ↦
-          let either : (is_known classes w || same_bits w v) ≡ true = sym (any-push (λ c. same_bits w c.bits) classes (class_of (n, v))) ∙ rw (new_stays classes n v new) at known in
-          elim (one_true (is_known classes w) (same_bits w v) either) [ inl a ↦ inl a | inr b ↦ inr ((same_bits_decides w v).0 b) ]
-    ]
-
-pub known_after : (classes : List Class) (es : List (ℕ × List Bool)) (w : List Bool) → is_known classes w ≡ true → is_known (with_vectors classes es) w ≡ true
-known_after classes [] w known = known
-known_after classes (e ∷ es) w known = known_after (with_vector classes e) es w (known_kept classes e.0 e.1 w known)
-
-pub seen_known : (classes : List Class) (n : ℕ) (vs : List (List Bool)) (w : List Bool) → In w vs → is_known (with_vectors classes (enumerate_from n vs)) w ≡ true
-seen_known classes n [] w i = absurd i
-seen_known classes n (v ∷ vs) w (inl e) =
-    known_after (with_vector classes (n, v)) (enumerate_from (n + 1) vs) w (subst (λ u. is_known (with_vector classes (n, v)) u ≡ true) (sym e) (known_itself classes n v))
-seen_known classes n (v ∷ vs) w (inr i) = seen_known (with_vector classes (n, v)) (n + 1) vs w i
+use Rattle.bit_classes.proofs.WalkLaws.{known_stays}
+use Rattle.bit_classes.proofs.ThinLaws.{Thin, thin_wider, thin_append, thin_length, thin_pairs, in_front, in_back, in_mapped, two_in}
+use Rattle.bit_classes.proofs.KnownLaws.{known_kept, known_itself, known_before, known_after, seen_known}
+use Rattle.bit_classes.proofs.TripleLaws.{triples_thin}
+use Rattle.bit_classes.proofs.JoinLaws.{joined_turned, joined_own, full_and_is, full_or_is}
 
 -- ---- to see what is told is to see all
 
@@ -150,10 +101,9 @@ module _ (width : ℕ) (K : List Bool → Type 0) (ms : List (Option (List Bool)
   full_first L Or two a y z e among_y among_z =
       subst L (sym (ap (λ w. joined Or w z) (ap (λ w. joined Or w y) e ∙ full_or_is width y (wide y among_y)))) (pair_known L Or two full z (inl refl) among_z)
 
-  three_thin : (L : List Bool → Type 0) (join : Join) → Known2 L join → Thin L (told_triples join ms) (joined_triples join rows)
+  three_thin : (L : List Bool → Type 0) (join : Join) → Known2 L join → Thin L (told_triples join [] ms) (joined_triples join rows)
   three_thin L join two =
-      thin_triples (joined join) (joined_told join) (told_some join) (λ y. refl) (λ x. refl) (joined_turned join) (joined_grouped join) (joined_own join)
-      (λ w. w ≡ full) L ms rows thin (pair_known L join two) (full_first L join two)
+      triples_thin join (λ w. w ≡ full) L [] ms rows thin (pair_known L join two) (full_first L join two) (λ c known z among. absurd (false≢true known))
 
   -- the pairs by AND and by OR
   both_thin : Thin K (told_pairs And ms ++ told_pairs Or ms) (joined_pairs And rows ++ joined_pairs Or rows)
@@ -170,16 +120,16 @@ module _ (width : ℕ) (K : List Bool → Type 0) (ms : List (Option (List Bool)
   known_by And w (inr i) = inr (in_front w (joined_pairs And rows) (joined_pairs Or rows) i)
   known_by Or w (inr i) = inr (in_back w (joined_pairs And rows) (joined_pairs Or rows) i)
 
-  all_three_thin : Thin Pairs (told_triples And ms ++ told_triples Or ms) (joined_triples And rows ++ joined_triples Or rows)
+  all_three_thin : Thin Pairs (told_triples And [] ms ++ told_triples Or [] ms) (joined_triples And rows ++ joined_triples Or rows)
   all_three_thin =
-      thin_append Pairs (told_triples And ms) (joined_triples And rows) (told_triples Or ms) (joined_triples Or rows) (three_thin Pairs And (known_by And))
-      (thin_wider Pairs (λ w. Pairs w ⊎ In w (joined_triples And rows)) (λ w k. inl k) (told_triples Or ms) (joined_triples Or rows) (three_thin Pairs Or (known_by Or)))
+      thin_append Pairs (told_triples And [] ms) (joined_triples And rows) (told_triples Or [] ms) (joined_triples Or rows) (three_thin Pairs And (known_by And))
+      (thin_wider Pairs (λ w. Pairs w ⊎ In w (joined_triples And rows)) (λ w k. inl k) (told_triples Or [] ms) (joined_triples Or rows) (three_thin Pairs Or (known_by Or)))
 
   more_thin : (two three : Bool) → (three ≡ true → two ≡ true)
-      → Thin K ((if two then told_pairs And ms ++ told_pairs Or ms else []) ++ (if three then told_triples And ms ++ told_triples Or ms else []))
+      → Thin K ((if two then told_pairs And ms ++ told_pairs Or ms else []) ++ (if three then told_triples And [] ms ++ told_triples Or [] ms else []))
       ((if two then joined_pairs And rows ++ joined_pairs Or rows else []) ++ (if three then joined_triples And rows ++ joined_triples Or rows else []))
   unfolding Pairs
-  more_thin true true so = thin_append K _ _ (told_triples And ms ++ told_triples Or ms) (joined_triples And rows ++ joined_triples Or rows) both_thin all_three_thin
+  more_thin true true so = thin_append K _ _ (told_triples And [] ms ++ told_triples Or [] ms) (joined_triples And rows ++ joined_triples Or rows) both_thin all_three_thin
   more_thin true false so = thin_append K _ _ [] [] both_thin tt
   more_thin false true so = absurd (false≢true (so refl))
   more_thin false false so = tt

@@ -1,7 +1,7 @@
 -- How classes grow, vector by vector.
 use Rattle.std.specs.Prelude.{◌≡◌, ℕ, ◌+◌, ◌<◌, nat_le, Bool, if◌then◌else◌, List, [], ◌∷◌, ◌++◌, map, length, fold, Option, Some, None, option_map, IfSome, Result, MatchResult}
 use Rattle.std.specs.List.{list_any}
-use Rattle.predicate_core.specs.Atoms.{pairs, triples}
+use Rattle.predicate_core.specs.Atoms.{pairs}
 use Rattle.bit_rows.specs.Bits.{same_bits}
 use Rattle.bit_classes.specs.declared.class.Class.{Class}
 use Rattle.bit_classes.specs.declared.class.ClassEnd.{ClassEnd}
@@ -64,12 +64,34 @@ joined_told join (Some x) b = option_map (joined join x) b
 abbrev pub told_pairs : Join → List (Option (List Bool)) → List (Option (List Bool))
 told_pairs join rows = map (λ p. joined_told join p.0 p.1) (pairs rows)
 
--- each three vectors of a list joined, where all are told
-abbrev pub told_triples : Join → List (Option (List Bool)) → List (Option (List Bool))
-told_triples join rows = map (λ p. joined_told join (joined_told join p.0 p.1) p.2) (triples rows)
+-- a vector that is told, if it is new
+abbrev pub if_new : List Class → Option (List Bool) → Option (List Bool)
+if_new classes None = None
+if_new classes (Some v) = if is_known classes v then None else Some v
+
+-- the classes after a vector, if it is told
+abbrev pub with_told : List Class → Option (List Bool) → List Class
+with_told classes None = classes
+with_told classes (Some v) = with_vector classes (0, v)
+
+-- a first vector joined with each two of a list, where it with the earlier of the two gives a new vector
+abbrev pub told_under : Join → List Class → Option (List Bool) → List (Option (List Bool)) → List (Option (List Bool))
+told_under join pair_classes first [] = []
+told_under join pair_classes first (m ∷ ms) =
+    map (joined_told join (if_new pair_classes (joined_told join first m))) ms ++ told_under join (with_told pair_classes (joined_told join first m)) first ms
+
+-- the classes after a first vector joined with each of a list
+abbrev pub classes_under : Join → List Class → Option (List Bool) → List (Option (List Bool)) → List Class
+classes_under join pair_classes first [] = pair_classes
+classes_under join pair_classes first (m ∷ ms) = classes_under join (with_told pair_classes (joined_told join first m)) first ms
+
+-- each three vectors of a list joined, where the first two of them give a new vector
+abbrev pub told_triples : Join → List Class → List (Option (List Bool)) → List (Option (List Bool))
+told_triples join pair_classes [] = []
+told_triples join pair_classes (m ∷ ms) = told_under join pair_classes m ms ++ told_triples join (classes_under join pair_classes m ms) ms
 
 -- the vectors of two or three rows that are told, as far as the bound goes, in the order of the predicates
 abbrev pub told_more : List (Option (List Bool)) → ℕ → List (Option (List Bool))
 told_more rows bound =
     (if nat_le 2 bound then told_pairs And rows ++ told_pairs Or rows else [])
-    ++ (if nat_le 3 bound then told_triples And rows ++ told_triples Or rows else [])
+    ++ (if nat_le 3 bound then told_triples And [] rows ++ told_triples Or [] rows else [])

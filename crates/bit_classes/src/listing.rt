@@ -35,7 +35,7 @@ fn see_three(found: &mut Found, rows: &[Option<BitRow>], number: u64) -> Result<
     requires widths { All (HasWidth found.old.width) rows.now }
     requires few { length rows.now ≤ 100000 }
     requires small { number ≤ 2 ^ 59 }
-    ensures { Sees found.old (numbered number (told_triples And rows.now ++ told_triples Or rows.now)) found.new result }
+    ensures { Sees found.old (numbered number (told_triples And [] rows.now ++ told_triples Or [] rows.now)) found.new result }
 {
     see_triples(found, Join::And, rows, number)?;
     see_triples(

@@ -54,20 +54,47 @@ const THIRDS: [(u64, &str); 8] = [
     (10, "000"),
 ];
 
+const DOUBLED: [(u64, &str); 8] = [
+    (0, "111"),
+    (1, "110"),
+    (3, "101"),
+    (4, "011"),
+    (6, "100"),
+    (7, "010"),
+    (10, "001"),
+    (19, "000"),
+];
+
+const SINGLES: [(u64, &str); 9] = [
+    (0, "1111"),
+    (1, "1000"),
+    (2, "0100"),
+    (3, "0010"),
+    (4, "0000"),
+    (7, "1100"),
+    (8, "1010"),
+    (9, "0110"),
+    (11, "1110"),
+];
+
 #[test]
 fn lists_classes(rt: HostRuntime) -> Result<(), Fail> {
     let alloc = rt.alloc();
     let halves: [&str; 2] = ["01", "10"];
     let thirds: [&str; 3] = ["110", "101", "011"];
     let doubles: [&str; 4] = ["11", "01", "01", "10"];
+    let doubled: [&str; 4] = ["110", "110", "101", "011"];
+    let singles: [&str; 3] = ["1000", "0100", "0010"];
     // Atoms, the bound, and the classes.
-    let table: [(usize, &[&str], u32, &[(u64, &str)]); 7] = [
+    let table: [(usize, &[&str], u32, &[(u64, &str)]); 9] = [
         (2, &[], 3, &[(0, "11")]),
         (2, &halves, 1, &HALVES[..3]),
         (2, &halves, 2, &HALVES),
         (3, &thirds, 1, &THIRDS[..4]),
         (3, &thirds, 2, &THIRDS[..7]),
         (3, &thirds, 3, &THIRDS),
+        (3, &doubled, 3, &DOUBLED),
+        (4, &singles, 3, &SINGLES),
         (
             2,
             &doubles,

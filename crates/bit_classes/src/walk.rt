@@ -1,8 +1,7 @@
 ghost use Rattle.std.specs.Prelude.{◌≡◌, ◌+◌, ◌<◌, ◌≤◌, ◌^◌, ◌∷◌, ◌++◌, [], length, map, option_map, Some, None, IfSome, IfOk, IfErr, OnOk, if◌then◌else◌};
 ghost use Rattle.std.specs.List.{All, enumerate_from};
-ghost use Rattle.predicate_core.specs.Atoms.{pairs};
 ghost use Rattle.bit_classes.specs.Vectors.{joined};
-ghost use Rattle.bit_classes.specs.Walk.{Sees, HasWidth, is_known, numbered, new_vectors, joined_told, told_pairs, told_triples};
+ghost use Rattle.bit_classes.specs.Walk.{Sees, HasWidth, is_known, numbered, new_vectors, joined_told, if_new, with_told, told_pairs, told_under, classes_under, told_triples};
 
 use crate::class::ClassEnd;
 use crate::found::Found;
@@ -155,9 +154,26 @@ pub fn see_pairs(
     Ok(())
 }
 
-// Sees a row joined with each two of some others, where there are both, under the numbers from one on.
+// A row that there may be, if it is new among some rows: it is one of them from then on.
+fn keep_new(pairs: &mut Found, row: Option<BitRow>) -> Result<Option<BitRow>, OutOfMemory>
+    ensures told { IfOk result (λ told. told ≡ if_new pairs.old.classes row) }
+    ensures classes { OnOk result (pairs.new.classes ≡ with_told pairs.old.classes row) }
+{
+    let Some(row) = row else {
+        return Ok(None);
+    };
+    if pairs.knows(&row) {
+        return Ok(None);
+    }
+    pairs.see(&row, 0).map_err(|_| OutOfMemory)?;
+    Ok(Some(row))
+}
+
+// Sees a row joined with each two of some others, under the numbers from one on, where it with the earlier of the two gives
+// a new row among `pairs`.
 fn see_pairs_under(
     found: &mut Found,
+    pairs: &mut Found,
     join: Join,
     first: &BitRow,
     rows: &[Option<BitRow>],
@@ -167,11 +183,13 @@ fn see_pairs_under(
     requires widths { All (HasWidth found.old.width) rows.now }
     requires few { length rows.now ≤ 100000 }
     requires small { number ≤ 2 ^ 61 }
-    ensures { Sees found.old (numbered number (map (λ p. joined_told join (joined_told join (Some first.now) p.0) p.1) (pairs rows.now))) found.new result }
+    ensures sees { Sees found.old (numbered number (told_under join pairs.old.classes (Some first.now) rows.now)) found.new result }
+    ensures classes { OnOk result (pairs.new.classes ≡ classes_under join pairs.old.classes (Some first.now) rows.now) }
 {
     let mut next = number;
     for i in 0..rows.len() {
-        let both = join_told(found.alloc(), join, first, &rows[i])?;
+        let joined = join_told(found.alloc(), join, first, &rows[i])?;
+        let both = keep_new(pairs, joined)?;
         let others = &rows[i + 1..];
         see_told(found, join, &both, others, next)?;
         next += others.len() as u64;
@@ -182,6 +200,7 @@ fn see_pairs_under(
 // The same of a row that there may be.
 fn see_pairs_told(
     found: &mut Found,
+    pairs: &mut Found,
     join: Join,
     first: &Option<BitRow>,
     rows: &[Option<BitRow>],
@@ -191,15 +210,17 @@ fn see_pairs_told(
     requires widths { All (HasWidth found.old.width) rows.now }
     requires few { length rows.now ≤ 100000 }
     requires small { number ≤ 2 ^ 61 }
-    ensures { Sees found.old (numbered number (map (λ p. joined_told join (joined_told join first.now p.0) p.1) (pairs rows.now))) found.new result }
+    ensures sees { Sees found.old (numbered number (told_under join pairs.old.classes first.now rows.now)) found.new result }
+    ensures classes { OnOk result (pairs.new.classes ≡ classes_under join pairs.old.classes first.now rows.now) }
 {
     match first {
-        Some(first) => see_pairs_under(found, join, first, rows, number),
+        Some(first) => see_pairs_under(found, pairs, join, first, rows, number),
         None => Ok(()),
     }
 }
 
-/// Sees each three of some rows joined, where there are all, under the numbers from one on.
+/// Sees each three of some rows joined, where there are all, under the numbers from one on. Where two of them give no new row,
+/// they give none with a third either.
 pub fn see_triples(
     found: &mut Found,
     join: Join,
@@ -209,12 +230,13 @@ pub fn see_triples(
     requires widths { All (HasWidth found.old.width) rows.now }
     requires few { length rows.now ≤ 100000 }
     requires small { number ≤ 2 ^ 60 }
-    ensures { Sees found.old (numbered number (told_triples join rows.now)) found.new result }
+    ensures { Sees found.old (numbered number (told_triples join [] rows.now)) found.new result }
 {
+    let mut pairs = Found::new(found.alloc(), found.width(), u64::MAX);
     let mut next = number;
     for i in 0..rows.len() {
         let others = &rows[i + 1..];
-        see_pairs_told(found, join, &rows[i], others, next)?;
+        see_pairs_told(found, &mut pairs, join, &rows[i], others, next)?;
         next += pair_count(others.len() as u64);
     }
     Ok(())

@@ -1,5 +1,6 @@
 use crate::{
-    Atom, Pred, atom_count, atoms, has_constant, keeps, preds, same_pred, single_preds, truth,
+    Atom, Pred, atom_count, atoms, has_constant, keeps, pair_count, preds, same_pred, single_preds,
+    triple_count, truth,
 };
 use std::test::Fail;
 use value_core::{CmpOp, ColType, Truth, Value};
@@ -77,6 +78,7 @@ fn numbers_predicates(rt: HostRuntime) -> Result<(), Fail> {
     let alloc = rt.alloc();
     let atoms = atoms(alloc, &[ColType::Int, ColType::Int], &[Value::Int(7)])?;
     assert_eq!(rt; atoms.len(), 22);
+    assert_eq!(rt; (pair_count(22), triple_count(22)), (231, 1540));
     for (bound, want) in [(1, 23), (2, 485), (3, 3565)] {
         let list = preds(alloc, atoms.as_slice(), bound)?;
         assert_eq!(rt; list.len(), want);

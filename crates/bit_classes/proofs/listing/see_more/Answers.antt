@@ -10,7 +10,7 @@ pub returns-in_err-see_two : goal.returns-in_err-see_two
 returns-in_err-see_two c =
     let rows = c.args.rows.now in
     let two = told_pairs And rows ++ told_pairs Or rows in
-    let three = if nat_le 3 c.args.bound then told_triples And rows ++ told_triples Or rows else [] in
+    let three = if nat_le 3 c.args.bound then told_triples And [] rows ++ told_triples Or [] rows else [] in
     let all = ap (numbered c.args.number) (sym (more_from_two rows c.args.bound c.if-bound-lt2.false)) in
     let p = err_from_is_err_and c.from_residual.result c.from_residual.ensures.1 in
     rw (p.1, p.2) (sees_same c.args.found.now c.see_two.new.found (Err c.in_err-see_two.field-0.0) _ _ all
@@ -20,7 +20,7 @@ pub returns : goal.returns
 returns c =
     let rows = c.args.rows.now in
     let two = told_pairs And rows ++ told_pairs Or rows in
-    let three = told_triples And rows ++ told_triples Or rows in
+    let three = told_triples And [] rows ++ told_triples Or [] rows in
     let all = ap (numbered c.args.number) (sym (more_of_three rows c.args.bound c.if-bound-lt2.false c.if-bound-lt3.false)) in
     let next = ap (λ k. c.args.number + k) (ap (λ k. 2 * k) c.pair_count.ensures.count ∙ sym (length-both_pairs rows)) in
     sees_same c.args.found.now c.see_three.new.found c.see_three.result _ _ all
