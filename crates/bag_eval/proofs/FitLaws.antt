@@ -1,13 +1,12 @@
 -- The rows of each step fit the types of its columns.
-use Rattle.std.proofs.Common.{◌≡◌, ℕ, zero, suc, ◌+◌, ◌≢◌, Bool, true, false, not, ◌&&◌, ◌==◌, List, [], ◌∷◌, ◌++◌, map, flat_map, length, replicate, unwrap_or, slice_get, Option, Some, None, is_none, option_map, IfSome, if◌then◌else◌, refl, sym, ap, ◌∙◌, inl, inr, arith, eq-eqb}
+use Rattle.std.proofs.Common.{◌≡◌, ℕ, zero, suc, ◌+◌, Bool, true, false, not, ◌&&◌, ◌==◌, List, [], ◌∷◌, ◌++◌, map, length, replicate, Option, Some, None, is_none, option_map, if◌then◌else◌, refl, sym, ap, ◌∙◌, inl, inr, arith, eq-eqb}
 use Rattle.std.specs.Prelude.{filter}
-use Rattle.std.specs.List.{list_all}
 use Rattle.std.specs.Cmp.Lexicographic.{pointwise}
 use Rattle.std.proofs.lemmas.Bool.{cases_Bool, false≢true}
 use Rattle.std.proofs.lemmas.Bool.Decides.{nat_tests}
 use Rattle.value_core.specs.Value.{fits, same_type}
 use Rattle.value_core.specs.declared.value.Value.{Value}
-use Rattle.value_core.specs.declared.value.Value.TheVariants.{Null, Int, Text}
+use Rattle.value_core.specs.declared.value.Value.TheVariants.{Null}
 use Rattle.value_core.specs.declared.value.ColType.{ColType}
 use Rattle.value_core.specs.declared.value.ColType.TheVariants as kind
 use Rattle.predicate_core.specs.Truth.{value_at, keeps}
@@ -143,7 +142,7 @@ pub joined_fit : (ts us : List ColType) (k : List Value) (p : Pred) (lefts right
 joined_fit ts us k p [] rights f g = tt
 joined_fit ts us k p (l ∷ lefts) rights f g = all-append (ts ++ us) (kept_pairs k p rights l) (joined k p lefts rights) (kept_fit ts us k p l rights f.0 g) (joined_fit ts us k p lefts rights f.1 g)
 
-fits_null : (t : ColType) → fits t Null ≡ true
+pub fits_null : (t : ColType) → fits t Null ≡ true
 fits_null kind.Int = refl
 fits_null kind.Text = refl
 

@@ -1,24 +1,24 @@
 -- The rows of groups fit the types of a group's columns.
-use Rattle.std.proofs.Common.{◌≡◌, ℕ, ℤ, Bool, true, false, not, List, [], ◌∷◌, ◌++◌, map, length, Option, Some, None, option_map, IfSome, if◌then◌else◌, refl, inl, inr}
+use Rattle.std.proofs.Common.{◌≡◌, ℕ, ℤ, Bool, true, false, not, List, [], ◌∷◌, ◌++◌, map, Option, Some, None, option_map, IfSome, if◌then◌else◌, refl, inl, inr}
 use Rattle.std.specs.Prelude.{filter}
 use Rattle.std.specs.List.{fold}
 use Rattle.std.specs.Ordering.{is_lt}
 use Rattle.std.proofs.lemmas.Bool.{cases_Bool}
 use Rattle.value_core.specs.Value.{fits, order}
 use Rattle.value_core.specs.declared.value.Value.{Value}
-use Rattle.value_core.specs.declared.value.Value.TheVariants.{Null, Int, Text}
+use Rattle.value_core.specs.declared.value.Value.TheVariants.{Int}
 use Rattle.value_core.specs.declared.value.ColType.{ColType}
 use Rattle.value_core.specs.declared.value.ColType.TheVariants as kind
 use Rattle.predicate_core.specs.Truth.{value_at}
 use Rattle.table_core.specs.Rows.{Row}
 use Rattle.table_core.specs.Bag.{same_cells}
 use Rattle.table_core.specs.Limits.{is_null}
-use Rattle.query_core.specs.Firsts.{projected, firsts}
+use Rattle.query_core.specs.Firsts.{projected}
 use Rattle.query_core.specs.Groups.{values_of, is_within_64, sum_of, exact_sum, smaller, larger, smallest, largest, aggregate, group_keys, members, group_row, all_some, grouped}
 use Rattle.query_core.specs.Meaning.{type_at, agg_type, group_types}
 use Rattle.query_core.specs.declared.agg.Agg.{Agg}
 use Rattle.query_core.specs.declared.agg.Agg.TheVariants.{CountAll, Count, CountDistinct, Sum, Min, Max}
-use Rattle.bag_eval.proofs.FitLaws.{Fits, AllFit, fits-append, value_fits, all-filter, firsts_fit, selected_fit}
+use Rattle.bag_eval.proofs.FitLaws.{Fits, AllFit, fits-append, fits_null, value_fits, all-filter, firsts_fit, selected_fit}
 
 -- each value may stand in a column of a type
 abbrev ValuesFit : ColType → List Value → Type 0
@@ -47,10 +47,6 @@ fits_choice t false v w f g = g
 fold_fits : (t : ColType) (pick : Value → Value → Value) → ((v w : Value) → fits t v ≡ true → fits t w ≡ true → fits t (pick v w) ≡ true) → (v : Value) (vs : List Value) → fits t v ≡ true → ValuesFit t vs → fits t (fold pick v vs) ≡ true
 fold_fits t pick keeps v [] f g = f
 fold_fits t pick keeps v (w ∷ vs) f g = fold_fits t pick keeps (pick v w) vs (keeps v w f g.0) g.1
-
-fits_null : (t : ColType) → fits t Null ≡ true
-fits_null kind.Int = refl
-fits_null kind.Text = refl
 
 smallest_fits : (t : ColType) (vs : List Value) → ValuesFit t vs → fits t (smallest vs) ≡ true
 smallest_fits t [] f = fits_null t
