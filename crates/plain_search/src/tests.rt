@@ -35,7 +35,10 @@ fn row(alloc: Global, spellings: &[&str]) -> Result<Tuple, Fail> {
 }
 
 // The columns of a table, and its rows.
-type Tabled<'a> = (&'a [(&'a str, ColType)], &'a [&'a [&'a str]]);
+type Tabled = (
+    &'static [(&'static str, ColType)],
+    &'static [&'static [&'static str]],
+);
 
 fn table(alloc: Global, name: &str, tabled: Tabled) -> Result<Table, Fail> {
     let mut columns = Vec::new(alloc);
@@ -49,27 +52,31 @@ fn table(alloc: Global, name: &str, tabled: Tabled) -> Result<Table, Fail> {
     Ok(table)
 }
 
+// The names of inputs, each with its table.
+type Inputs = &'static [(&'static str, Tabled)];
+
 // Inputs, the output, constants, and the bounds on operators, leaves and atoms.
-type Given<'a> = (
-    &'a [(&'a str, Tabled<'a>)],
-    Tabled<'a>,
-    &'a [&'a str],
-    (u32, u32, u32),
-);
+#[derive(Clone, Copy)]
+struct Given {
+    inputs: Inputs,
+    output: Tabled,
+    constants: &'static [&'static str],
+    bounds: (u32, u32, u32),
+}
 
 fn task(alloc: Global, given: Given, aggregates: AggSet) -> Result<Task, Fail> {
     let mut inputs = Items::new(alloc);
-    for (name, tabled) in given.0 {
+    for (name, tabled) in given.inputs {
         inputs.push(table(alloc, name, *tabled)?)?;
     }
     let mut constants = Items::new(alloc);
-    for spelling in given.2 {
+    for spelling in given.constants {
         constants.push(value(alloc, spelling)?)?;
     }
-    let (ops, leaves, atoms) = given.3;
+    let (ops, leaves, atoms) = given.bounds;
     let parts = TaskParts {
         inputs,
-        output: table(alloc, "out", given.1)?,
+        output: table(alloc, "out", given.output)?,
         constants,
         aggregates,
         ops,
@@ -170,91 +177,101 @@ const NUMBERS: &[(&str, ColType)] = &[NUMBER];
 
 const MIXED: &[(&str, ColType)] = &[TEXT, NUMBER];
 
-#[test]
-fn lists_answers(rt: HostRuntime) -> Result<(), Fail> {
-    let alloc = rt.alloc();
-    let sums = AggSet {
-        sum: true,
+const DOUBLE: Tabled = (MIXED, &[&["a", "1"], &["a", "2"]]);
+
+const THREE: Tabled = (MIXED, &[&["a", "1"], &["b", "2"], &["c", "1"]]);
+
+const ONE: Tabled = (WORDS, &[&["a"]]);
+
+const LEFT: Tabled = (WORDS, &[&["x"], &["y"]]);
+
+const RIGHT: Tabled = (MIXED, &[&["x", "7"]]);
+
+const ON_DOUBLE: Inputs = &[("t", DOUBLE)];
+
+const ON_THREE: Inputs = &[("t", THREE)];
+
+const ON_ONE: Inputs = &[("t", ONE)];
+
+const ON_BOTH: Inputs = &[("l", LEFT), ("r", RIGHT)];
+
+// The shapes of the answers of a task, which may have sums or no aggregates.
+fn answered(
+    alloc: Global,
+    sum: bool,
+    inputs: Inputs,
+    output: Tabled,
+    constants: &'static [&'static str],
+    bounds: (u32, u32, u32),
+) -> Result<Vec<u8>, Fail> {
+    let given = Given {
+        inputs,
+        output,
+        constants,
+        bounds,
+    };
+    let aggregates = AggSet {
+        sum,
         ..AggSet::NONE
     };
-    let double: Tabled = (MIXED, &[&["a", "1"], &["a", "2"]]);
-    let three: Tabled = (MIXED, &[&["a", "1"], &["b", "2"], &["c", "1"]]);
-    let one: Tabled = (WORDS, &[&["a"]]);
-    let left: Tabled = (WORDS, &[&["x"], &["y"]]);
-    let right: Tabled = (MIXED, &[&["x", "7"]]);
-    let cases: [(Given, AggSet, &[u8]); 7] = [
-        (
-            (&[("t", double)], one, &["1"], (1, 1, 1)),
-            AggSet::NONE,
-            b"F1a F1a a!",
-        ),
-        (
-            (&[("t", double)], double, &["2"], (1, 1, 1)),
-            AggSet::NONE,
-            b"a",
-        ),
-        (
-            (
-                &[("t", three)],
-                (MIXED, &[&["c", "1"]]),
-                &["a", "1"],
-                (1, 1, 1),
-            ),
-            AggSet::NONE,
-            b"",
-        ),
-        (
-            (
-                &[("t", three)],
-                (MIXED, &[&["c", "1"]]),
-                &["a", "1"],
-                (1, 1, 2),
-            ),
-            AggSet::NONE,
-            b"F&a",
-        ),
-        (
-            (&[("t", one)], (WORDS, &[&["a"], &["a"]]), &[], (1, 2, 1)),
-            AggSet::NONE,
-            b"Aaa",
-        ),
-        (
-            (
-                &[("l", left), ("r", right)],
-                (MIXED, &[&["x", "7"], &["y", ""]]),
-                &[],
-                (1, 2, 1),
-            ),
-            AggSet::NONE,
-            b"L1ab",
-        ),
-        (
-            (&[("t", double)], (NUMBERS, &[&["3"]]), &[], (1, 1, 1)),
-            sums,
-            b"G0a G1a",
-        ),
-    ];
-    for (at, (given, aggregates, wanted)) in cases.into_iter().enumerate() {
-        let task = task(alloc, given, aggregates)?;
-        let list = listed(alloc, &task)?;
-        let found = shapes(alloc, list.as_slice())?;
-        assert_eq!(rt; found.as_slice(), wanted, "{at}");
-    }
+    let task = task(alloc, given, aggregates)?;
+    shapes(alloc, listed(alloc, &task)?.as_slice())
+}
+
+#[test]
+fn lists_filters(rt: HostRuntime) -> Result<(), Fail> {
+    let alloc = rt.alloc();
+    let found = answered(alloc, false, ON_DOUBLE, ONE, &["1"], (1, 1, 1))?;
+    assert_eq!(rt; found.as_slice(), b"F1a F1a a!".as_slice());
+    let found = answered(alloc, false, ON_DOUBLE, DOUBLE, &["2"], (1, 1, 1))?;
+    assert_eq!(rt; found.as_slice(), b"a".as_slice());
+    let last: Tabled = (MIXED, &[&["c", "1"]]);
+    let found = answered(alloc, false, ON_THREE, last, &["a", "1"], (1, 1, 1))?;
+    assert_eq!(rt; found.as_slice(), b"".as_slice());
+    let found = answered(alloc, false, ON_THREE, last, &["a", "1"], (1, 1, 2))?;
+    assert_eq!(rt; found.as_slice(), b"F&a".as_slice());
     Ok(())
 }
 
 #[test]
-fn counts_skeletons(rt: HostRuntime) -> Result<(), Fail> {
+fn lists_other_kinds(rt: HostRuntime) -> Result<(), Fail> {
     let alloc = rt.alloc();
-    let six: &[(&str, ColType)] = &[
-        ("a", ColType::Int),
-        ("b", ColType::Int),
-        ("c", ColType::Int),
-        ("d", ColType::Int),
-        ("e", ColType::Int),
-        ("f", ColType::Int),
-    ];
-    let wide: Tabled = (six, &[]);
+    let twice: Tabled = (WORDS, &[&["a"], &["a"]]);
+    let found = answered(alloc, false, ON_ONE, twice, &[], (1, 2, 1))?;
+    assert_eq!(rt; found.as_slice(), b"Aaa".as_slice());
+    let padded: Tabled = (MIXED, &[&["x", "7"], &["y", ""]]);
+    let found = answered(alloc, false, ON_BOTH, padded, &[], (1, 2, 1))?;
+    assert_eq!(rt; found.as_slice(), b"L1ab".as_slice());
+    let total: Tabled = (NUMBERS, &[&["3"]]);
+    let found = answered(alloc, true, ON_DOUBLE, total, &[], (1, 1, 1))?;
+    assert_eq!(rt; found.as_slice(), b"G0a G1a".as_slice());
+    Ok(())
+}
+
+const SIX: &[(&str, ColType)] = &[
+    ("a", ColType::Int),
+    ("b", ColType::Int),
+    ("c", ColType::Int),
+    ("d", ColType::Int),
+    ("e", ColType::Int),
+    ("f", ColType::Int),
+];
+
+const FOUR_WIDE: Inputs = &[
+    ("p", (SIX, &[])),
+    ("q", (SIX, &[])),
+    ("r", (SIX, &[])),
+    ("s", (SIX, &[])),
+];
+
+// A task of four inputs of six columns, with all aggregates and so many operators.
+fn wide(alloc: Global, ops: u32) -> Result<Task, Fail> {
+    let given = Given {
+        inputs: FOUR_WIDE,
+        output: (NUMBERS, &[]),
+        constants: &[],
+        bounds: (ops, 3, 3),
+    };
     let all = AggSet {
         count_all: true,
         count: true,
@@ -263,10 +280,13 @@ fn counts_skeletons(rt: HostRuntime) -> Result<(), Fail> {
         min: true,
         max: true,
     };
-    let inputs: &[(&str, Tabled)] = &[("p", wide), ("q", wide), ("r", wide), ("s", wide)];
-    let large = task(alloc, (inputs, (NUMBERS, &[]), &[], (4, 3, 3)), all)?;
-    assert!(rt; !few(alloc, &large)?);
-    let small = task(alloc, (inputs, (NUMBERS, &[]), &[], (1, 3, 3)), all)?;
-    assert!(rt; few(alloc, &small)?);
+    task(alloc, given, all)
+}
+
+#[test]
+fn counts_skeletons(rt: HostRuntime) -> Result<(), Fail> {
+    let alloc = rt.alloc();
+    assert!(rt; !few(alloc, &wide(alloc, 4)?)?);
+    assert!(rt; few(alloc, &wide(alloc, 1)?)?);
     Ok(())
 }
