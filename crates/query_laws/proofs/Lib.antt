@@ -1,0 +1,7 @@
+pub mod AnswerLaws
+pub mod KeyLaws
+pub mod ListLaws
+pub mod QueryLaws
+pub mod RowLaws
+pub mod SkeletonLaws
+pub mod SkeletonOnceLaws

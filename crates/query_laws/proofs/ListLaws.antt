@@ -1,0 +1,29 @@
+-- Membership in lists, by places and from the front.
+use Rattle.std.proofs.Common.{◌≡◌, refl, sym, ap, ◌∙◌, ℕ, zero, suc, ◌<◌, inl, inr, List, [], ◌∷◌, length, Option, Some, None, arith}
+use Rattle.std.specs.Prelude.{slice_get, slice_index_or, Contains}
+use Rattle.std.proofs.lemmas.Option.{none-some}
+use Rattle.predicate_core.proofs.OnceLists.{In, in_at}
+
+-- an element that is in a list has a place there
+pub at_in : {X : Type 0} (x : X) (xs : List X) → In x xs → (i : ℕ) × (slice_get xs i ≡ Some x)
+at_in x [] i = absurd i
+at_in x (y ∷ ys) (inl e) = (zero, ap Some (sym e))
+at_in x (y ∷ ys) (inr i) = let h = at_in x ys i in (suc h.0, h.1)
+
+-- a place below the length has its element
+index_in : {X : Type 0} (xs : List X) (k : ℕ) (x : X) → k < length xs → slice_index_or xs k x ≡ x → In x xs
+index_in [] k x below is = omega arith
+index_in (y ∷ ys) zero x below is = inl (sym is)
+index_in (y ∷ ys) (suc k) x below is = inr (index_in ys k x (omega arith) is)
+
+in_index : {X : Type 0} (xs : List X) (x : X) → In x xs → Contains xs x
+in_index [] x i = absurd i
+in_index (y ∷ ys) x (inl e) = (zero, omega arith, sym e)
+in_index (y ∷ ys) x (inr i) = let h = in_index ys x i in let below = h.1 in (suc h.0, omega arith, h.2)
+
+-- to be an element by a place, and from the front
+pub contains_in : {X : Type 0} (xs : List X) (x : X) → Contains xs x → In x xs
+contains_in xs x h = index_in xs h.0 x h.1 h.2
+
+pub in_contains : {X : Type 0} (xs : List X) (x : X) → In x xs → Contains xs x
+in_contains xs x i = in_index xs x i

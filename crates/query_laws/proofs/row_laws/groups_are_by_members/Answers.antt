@@ -1,0 +1,5 @@
+use Rattle.query_laws.proofs.RowLaws.{groups_by_members}
+use Rattle.query_laws.proofs.row_laws.groups_are_by_members.Goals as goal
+
+pub returns : goal.returns
+returns c = groups_by_members
