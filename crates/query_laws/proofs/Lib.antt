@@ -1,4 +1,5 @@
 pub mod AnswerLaws
+pub mod FillingLaws
 pub mod KeyLaws
 pub mod ListLaws
 pub mod QueryLaws
