@@ -1,4 +1,6 @@
 pub mod AnswerLaws
+pub mod FirstCopyLaws
+pub mod GroupLaws
 pub mod KeyLaws
 pub mod ListLaws
 pub mod QueryLaws
