@@ -1,5 +1,7 @@
 pub mod AnswerLaws
 pub mod FillingLaws
+pub mod FirstCopyLaws
+pub mod GroupLaws
 pub mod KeyLaws
 pub mod ListLaws
 pub mod QueryLaws
