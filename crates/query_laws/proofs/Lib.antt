@@ -1,4 +1,5 @@
 pub mod AnswerLaws
+pub mod JoinedLists
 pub mod KeyLaws
 pub mod ListLaws
 pub mod QueryLaws

@@ -1,5 +1,5 @@
 -- Each skeleton stands once in the list of skeletons.
-use Rattle.std.proofs.Common.{◌≡◌, refl, sym, ap, ◌∙◌, subst, subst₂, ℕ, zero, suc, ◌+◌, ◌-◌, ◌<◌, ◌≤◌, Bool, true, false, not, ◌&&◌, ◌==◌, ◌⊎◌, inl, inr, List, [], ◌∷◌, ◌++◌, map, length, arith, if◌then◌else◌, length-append}
+use Rattle.std.proofs.Common.{◌≡◌, refl, sym, ap, ◌∙◌, subst, subst₂, ℕ, zero, suc, ◌+◌, ◌-◌, ◌<◌, ◌≤◌, Bool, true, false, not, ◌&&◌, ◌==◌, ◌⊎◌, inl, inr, List, [], ◌∷◌, ◌++◌, map, length, arith, length-append}
 use Rattle.std.specs.Prelude.{filter as list_filter, flat_map}
 use Rattle.std.specs.List.{range_with_len, list_any}
 use Rattle.value_core.specs.Value.{same_type}
@@ -16,93 +16,11 @@ use Rattle.query_core.specs.Tree as t
 use Rattle.query_core.specs.Meaning.{columns, type_at}
 use Rattle.query_core.specs.declared.agg.Agg.{Agg}
 use Rattle.query_core.specs.declared.agg.Agg.TheVariants.{CountAll, Count, CountDistinct, Sum, Min, Max}
-use Rattle.query_core.specs.Grammar.{takes_filter, may_meet, in_order, same_types, level_at, products, level_pairs, last_level, filters_over, joins_of, lefts_of, union_alls_of, unions_of, key_lists, free_columns, int_columns, allowed, agg_list, groups_of, next_level, bases, levels, skeletons}
+use Rattle.query_core.specs.Grammar.{takes_filter, may_meet, in_order, same_types, level_at, products, level_pairs, last_level, key_lists, free_columns, int_columns, allowed, agg_list, groups_of, next_level, bases, levels, skeletons}
 use Rattle.query_laws.specs.Skeleton.{operators}
+use Rattle.query_laws.proofs.JoinedLists.{once_one, in_one, once_filter, in_flat_map, once_flat_map, in_range, once_range, Each, each_append, each_kept, IsOf, from_of, from_both, of_map}
 
--- what is kept of a list, and what is joined of its elements
-
-in_filter_next : {X : Type 0} (test : X → Bool) (x y : X) (ys : List X) (b : Bool) → test y ≡ b → (In x (list_filter test ys) → In x ys) → In x (list_filter test (y ∷ ys)) → In x (y ∷ ys)
-in_filter_next test x y ys true is rest i = elim (rw is at i) [ inl e ↦ inl e | inr j ↦ inr (rest j) ]
-in_filter_next test x y ys false is rest i = inr (rest (rw is at i))
-
-pub in_filter : {X : Type 0} (test : X → Bool) (x : X) (xs : List X) → In x (list_filter test xs) → In x xs
-in_filter test x [] i = absurd i
-in_filter test x (y ∷ ys) i = in_filter_next test x y ys (test y) refl (in_filter test x ys) i
-
-once_filter_next : {X : Type 0} (test : X → Bool) (x : X) (xs : List X) (b : Bool) → test x ≡ b → (In x xs → ⊥) → Once (list_filter test xs) → Once (list_filter test (x ∷ xs))
-once_filter_next test x xs true is new once = rw is (λ i. new (in_filter test x xs i), once)
-once_filter_next test x xs false is new once = rw is once
-
-pub once_filter : {X : Type 0} (test : X → Bool) (xs : List X) → Once xs → Once (list_filter test xs)
-once_filter test [] once = tt
-once_filter test (x ∷ xs) once = once_filter_next test x xs (test x) refl once.0 (once_filter test xs once.1)
-
-pub in_flat_map : {X Y : Type 0} (f : X → List Y) (y : Y) (xs : List X) → In y (flat_map f xs) → (x : X) × In x xs × In y (f x)
-in_flat_map f y [] i = absurd i
-in_flat_map f y (x ∷ xs) i =
-    elim (in_append y (f x) (flat_map f xs) i) [
-      | inl a ↦ (x, inl refl, a)
-      | inr b ↦ let h = in_flat_map f y xs b in (h.0, inr h.1, h.2)
-    ]
-
--- where the elements' lists are apart, and in each of them each stands once, each stands once in what is joined
-pub once_flat_map_in : {X Y : Type 0} (f : X → List Y) (xs : List X) → ((x : X) → In x xs → Once (f x)) → ((x z : X) (y : Y) → In x xs → In z xs → In y (f x) → In y (f z) → x ≡ z)
-    → Once xs → Once (flat_map f xs)
-once_flat_map_in f [] each apart once = tt
-once_flat_map_in f (x ∷ xs) each apart once =
-    once_append (f x) (flat_map f xs) (each x (inl refl)) (once_flat_map_in f xs (λ z i. each z (inr i)) (λ a b y i j. apart a b y (inr i) (inr j)) once.1)
-    (λ y here later. let h = in_flat_map f y xs later in once.0 (in_same x h.0 xs (apart x h.0 y (inl refl) (inr h.1) here h.2) h.1))
-
-pub once_flat_map : {X Y : Type 0} (f : X → List Y) → ((x : X) → Once (f x)) → ((x z : X) (y : Y) → In y (f x) → In y (f z) → x ≡ z) → (xs : List X) → Once xs → Once (flat_map f xs)
-once_flat_map f each apart xs once = once_flat_map_in f xs (λ x i. each x) (λ x z y i j. apart x z y) once
-
--- a range
-
-pub in_range : (x at n : ℕ) → In x (range_with_len at n) → (at ≤ x) × (x < at + n)
-in_range x at zero i = absurd i
-in_range x at (suc n) (inl e) = (omega arith, omega arith)
-in_range x at (suc n) (inr i) = let h = in_range x (at + 1) n i in (omega arith, omega arith)
-
-pub once_range : (at n : ℕ) → Once (range_with_len at n)
-once_range at zero = tt
-once_range at (suc n) = (λ i. let h = in_range at (at + 1) n i in omega (arith, h.0), once_range (at + 1) n)
-
--- what holds of each element of a list
-
-abbrev pub Each : {X : Type 0} → (X → Type 0) → List X → Type 0
-Each {X} P xs = (x : X) → In x xs → P x
-
-pub each_append : {X : Type 0} (P : X → Type 0) (xs ys : List X) → Each P xs → Each P ys → Each P (xs ++ ys)
-each_append P xs ys front back x i = elim (in_append x xs ys i) [ inl a ↦ front x a | inr b ↦ back x b ]
-
-pub each_map : {X Y : Type 0} (P : Y → Type 0) (f : X → Y) (xs : List X) → Each (λ x. P (f x)) xs → Each P (map f xs)
-each_map P f xs each y i = let h = in_map f y xs i in subst P (sym h.2) (each h.0 h.1)
-
-pub each_kept : {X Y : Type 0} (P : Y → Type 0) (f : X → Y) (test : X → Bool) (xs : List X) → Each (λ x. P (f x)) xs → Each P (map f (list_filter test xs))
-each_kept P f test xs each = each_map P f (list_filter test xs) (λ x i. each x (in_filter test x xs i))
-
--- lists whose elements have a number: each the same one, or none a lower one
-
-abbrev pub IsOf : {X : Type 0} → (X → ℕ) → ℕ → List X → Type 0
-IsOf {X} number n xs = Once xs × ((x : X) → In x xs → number x ≡ n)
-
-abbrev pub IsFrom : {X : Type 0} → (X → ℕ) → ℕ → List X → Type 0
-IsFrom {X} number n xs = Once xs × ((x : X) → In x xs → n ≤ number x)
-
-pub from_of : {X : Type 0} (number : X → ℕ) (n : ℕ) (xs : List X) → IsOf number n xs → IsFrom number n xs
-from_of number n xs of = (of.0, λ x i. omega (arith, of.1 x i))
-
-pub from_both : {X : Type 0} (number : X → ℕ) (n : ℕ) (xs ys : List X) → IsOf number n xs → IsFrom number (n + 1) ys → IsFrom number n (xs ++ ys)
-from_both number n xs ys front back = (
-  once_append xs ys front.0 back.0 (λ x a b. omega (arith, front.1 x a, back.1 x b)),
-  λ x i. elim (in_append x xs ys i) [ inl a ↦ omega (arith, front.1 x a) | inr b ↦ omega (arith, back.1 x b) ],
-)
-
-pub of_map : {X Y : Type 0} (number : Y → ℕ) (n : ℕ) (f : X → Y) → ((a b : X) → f a ≡ f b → a ≡ b) → ((x : X) → number (f x) ≡ n) → (xs : List X) → Once xs → IsOf number n (map f xs)
-of_map number n f apart is xs once = (once_map f apart xs once, λ y i. let h = in_map f y xs i in ap number h.2 ∙ is h.0)
-
--- the aggregates
-
+-- an aggregate's kind, in the order of the list
 abbrev agg_kind : Agg → ℕ
 agg_kind CountAll = 0
 agg_kind (Count column) = 1
@@ -117,15 +35,17 @@ of_allowed n true f apart is places once = of_map agg_kind n f apart is places o
 of_allowed n false f apart is places once = (tt, λ x i. absurd i)
 
 of_count_all : (flag : Bool) → IsOf agg_kind 0 (allowed flag (CountAll ∷ []))
-of_count_all true = ((λ i. absurd i, tt), λ x i. elim i [ inl e ↦ ap agg_kind e | inr j ↦ absurd j ])
+of_count_all true = (once_one CountAll, λ x i. ap agg_kind (in_one x CountAll i))
 of_count_all false = (tt, λ x i. absurd i)
 
+-- the columns that may be aggregated, each once
 once_free : (width : ℕ) (keys : List ℕ) → Once (free_columns width keys)
 once_free width keys = once_filter (λ i. not (list_any (λ k. k == i) keys)) (range_with_len 0 width) (once_range 0 width)
 
 once_ints : (types : List ColType) (places : List ℕ) → Once places → Once (int_columns types places)
 once_ints types places once = once_filter (λ i. same_type (type_at types i) type.Int) places once
 
+-- each aggregate stands once
 once_aggs : (set : AggSet) (types : List ColType) (keys : List ℕ) → Once (agg_list set types keys)
 once_aggs set types keys =
     let free = free_columns (length types) keys in
@@ -137,7 +57,7 @@ once_aggs set types keys =
     let maxima = from_of agg_kind 5 _ (of_allowed 5 set.max Max (λ a b e. cc) (λ c. refl) free once) in
     (from_both agg_kind 0 _ _ (of_count_all set.count_all) (from_both agg_kind 1 _ _ counts (from_both agg_kind 2 _ _ distincts (from_both agg_kind 3 _ _ sums (from_both agg_kind 4 _ _ minima maxima))))).0
 
--- the lists of keys
+-- each list of keys stands once
 
 one_key_same : (a b : ℕ) → ◌≡◌ {A = List ℕ} (a ∷ []) (b ∷ []) → a ≡ b
 one_key_same a b e = cc
@@ -148,13 +68,12 @@ two_keys_same (a, b) (c, d) e = let x : a ≡ c = cc in let y : b ≡ d = cc in 
 once_keys : (width : ℕ) → Once (key_lists width)
 once_keys width =
     let once = once_range 0 width in
-    let none : IsOf {X = List ℕ} length 0 ([] ∷ []) = ((λ i. absurd i, tt), λ x i. elim i [ inl e ↦ ap length e | inr j ↦ absurd j ]) in
+    let none : IsOf {X = List ℕ} length 0 ([] ∷ []) = (once_one {X = List ℕ} [], λ x i. ap length (in_one x [] i)) in
     let ones = of_map length 1 (λ i. i ∷ []) one_key_same (λ i. refl) (range_with_len 0 width) once in
     let twos = of_map length 2 (λ p. p.0 ∷ p.1 ∷ []) two_keys_same (λ p. refl) (pairs (range_with_len 0 width)) (once_pairs (range_with_len 0 width) once) in
     (from_both length 0 ([] ∷ []) _ none (from_both length 1 _ _ ones (from_of length 2 _ twos))).0
 
--- the groups over a tree
-
+-- the groups over a tree with these keys
 abbrev groups_by : TaskParts → Tree → List ℕ → List Tree
 groups_by task child keys = map (t.group child keys) (agg_list task.aggregates (columns task child) keys)
 
@@ -167,6 +86,7 @@ in_groups task child x i =
     let g = in_groups_by task child h.0 x h.2 in
     (h.0, g.0, g.1)
 
+-- a group tells its keys
 keys_same : (task : TaskParts) (child : Tree) (keys others : List ℕ) (x : Tree) → In x (groups_by task child keys) → In x (groups_by task child others) → keys ≡ others
 keys_same task child keys others x a b =
     let g = in_groups_by task child keys x a in
@@ -174,10 +94,12 @@ keys_same task child keys others x a b =
     let e : t.group child keys g.0 ≡ t.group child others h.0 = sym g.1 ∙ h.1 in
     cc
 
+-- each group over a tree stands once
 once_groups : (task : TaskParts) (child : Tree) → Once (groups_of task child)
 once_groups task child =
     once_flat_map (groups_by task child) (λ keys. once_map (t.group child keys) (λ a b e. cc) _ (once_aggs task.aggregates (columns task child) keys)) (keys_same task child) (key_lists (length (columns task child))) (once_keys (length (columns task child)))
 
+-- and its child
 child_same : (task : TaskParts) (child other x : Tree) → In x (groups_of task child) → In x (groups_of task other) → child ≡ other
 child_same task child other x a b =
     let g = in_groups task child x a in
@@ -185,14 +107,14 @@ child_same task child other x a b =
     let e : t.group child g.0 g.1 ≡ t.group other h.0 h.1 = sym g.2 ∙ h.2 in
     cc
 
+-- what holds of each group over a tree
 each_group : (P : Tree → Type 0) (task : TaskParts) (children : List Tree) → ((keys : List ℕ) (agg : Agg) → Each (λ child. P (t.group child keys agg)) children) → Each P (flat_map (groups_of task) children)
 each_group P task children each x i =
     let h = in_flat_map (groups_of task) x children i in
     let g = in_groups task h.0 x h.2 in
     subst P (sym g.2) (each g.0 g.1 h.0 h.1)
 
--- the pairs of trees of levels
-
+-- a tree with each of a list
 abbrev pairs_with : List Tree → Tree → List (Tree × Tree)
 pairs_with rights a = map (λ b. (a, b)) rights
 
@@ -295,6 +217,7 @@ of_groups task last once = (
   λ x i. let h = in_flat_map (groups_of task) x last i in ap tree_kind (in_groups task h.0 x h.2).2,
 )
 
+-- each tree of the next level stands once
 once_next : (task : TaskParts) (ls : List (List Tree)) → LevelsOnce ls → Once (next_level task ls)
 once_next task ls once =
     let last = last_level ls in
@@ -309,6 +232,7 @@ once_next task ls once =
     let unions = from_of tree_kind 5 _ (of_kept 5 (λ p. t.union p.0 p.1) union_same (λ p. refl) (unites task) ps of_pairs) in
     (from_both tree_kind 0 _ _ filters (from_both tree_kind 1 _ _ joins (from_both tree_kind 2 _ _ lefts (from_both tree_kind 3 _ _ groups (from_both tree_kind 4 _ _ union_alls unions))))).0
 
+-- each tree of the next level has an operator more
 next_operators : (task : TaskParts) (ls : List (List Tree)) → 1 ≤ length ls → LevelsOnce ls → Each (λ x. operators x ≡ length ls) (next_level task ls)
 next_operators task ls some once =
     next_each task ls (λ x. operators x ≡ length ls)
@@ -324,8 +248,7 @@ next_operators task ls some once =
         let h = in_level_pairs ls p i in
         omega (arith, h.1, (once h.0).1 p.0 h.2, (once (length ls - 1 - h.0)).1 p.1 h.3)
 
--- the levels
-
+-- the level of a number, where there is one level more
 level_more : (ls : List (List Tree)) (next : List Tree) (k : ℕ) → (level_at (ls ++ next ∷ []) k ≡ level_at ls k) ⊎ ((k ≡ length ls) × (level_at (ls ++ next ∷ []) k ≡ next))
 level_more [] next zero = inr (refl, refl)
 level_more [] next (suc k) = inl refl
@@ -364,16 +287,19 @@ in_levels (l ∷ ls) x i =
       | inr b ↦ let h = in_levels ls x b in (suc h.0, h.1)
     ]
 
+-- where each stands once in its level, and no two levels have a common tree, each stands once in all levels
 once_levels : (ls : List (List Tree)) → ((k : ℕ) → Once (level_at ls k)) → ((j k : ℕ) (x : Tree) → In x (level_at ls j) → In x (level_at ls k) → j ≡ k) → Once (flat_map (λ level. level) ls)
 once_levels [] once apart = tt
 once_levels (l ∷ ls) once apart =
     once_append l (flat_map (λ level. level) ls) (once zero) (once_levels ls (λ k. once (suc k)) (λ j k x a b. omega (arith, apart (suc j) (suc k) x a b)))
     (λ x a b. let h = in_levels ls x b in omega (arith, apart zero (suc h.0) x a h.1))
 
+-- each skeleton stands once, from the front
 pub skeletons_stand_once : (task : TaskParts) → Once (skeletons task)
 skeletons_stand_once task =
     let once = levels_once task task.ops in
     once_levels (levels task task.ops) (λ k. (once k).0) (λ j k x a b. sym ((once j).1 x a) ∙ (once k).1 x b)
 
+-- and by places
 pub skeletons_once : (task : TaskParts) → EachOnce (skeletons task)
 skeletons_once task = each_once (skeletons task) (skeletons_stand_once task)
