@@ -2,6 +2,7 @@ pub mod AnswerLaws
 pub mod FillingLaws
 pub mod FirstCopyLaws
 pub mod GroupLaws
+pub mod JoinedLists
 pub mod KeyLaws
 pub mod ListLaws
 pub mod QueryLaws

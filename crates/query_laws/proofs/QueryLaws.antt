@@ -1,7 +1,284 @@
 -- Each query stands once in the grammar.
-use Rattle.table_core.specs.declared.task.TaskParts.{TaskParts}
+use Rattle.std.proofs.Common.{◌≡◌, refl, sym, ap, ◌∙◌, subst, ap₂, ℕ, ◌+◌, Bool, true, false, inl, inr, List, [], ◌∷◌, ◌++◌, map, arith, map-id, length, ◌-◌}
+use Rattle.std.specs.Prelude.{flat_map}
+use Rattle.std.specs.List.{enumerate_from}
+use Rattle.std.proofs.lemmas.Bool.{false≢true}
+use Rattle.std.proofs.lemmas.List.{map-append}
+use Rattle.value_core.specs.declared.value.ColType.{ColType}
+use Rattle.value_core.specs.Value.{same_type}
+use Rattle.predicate_core.specs.Atoms.{atom_list}
+use Rattle.predicate_core.specs.declared.pred.Pred.{Pred}
+use Rattle.predicate_core.specs.declared.pred.Pred.TheVariants.{Always}
 use Rattle.predicate_core.specs.Laws.{EachOnce}
+use Rattle.predicate_core.proofs.OnceLists.{In, Once, in_same, in_map, once_map, each_once}
+use Rattle.predicate_core.proofs.OnceLaws.{once_atoms, once_preds}
+use Rattle.table_core.specs.Rows.{types_of}
+use Rattle.table_core.specs.declared.task.TaskParts.{TaskParts}
+use Rattle.query_core.specs.Tree.{Tree, Select}
+use Rattle.query_core.specs.Tree as t
+use Rattle.query_core.specs.Meaning.{columns}
+use Rattle.query_core.specs.declared.agg.Agg.{Agg}
+use Rattle.query_core.specs.Grammar.{level_at, levels, next_level, skeletons, predicates, filter_predicates, of_each, filters_filled, joins_filled, lefts_filled, fillings, places_of, maps, with_flags, queries_of_body, queries_of, numbered}
+use Rattle.query_core.proofs.MapLaws.{map_twice}
 use Rattle.query_laws.specs.Laws.{plain_queries}
+use Rattle.query_laws.proofs.JoinedLists.{in_one, once_one, in_flat_map, once_flat_map, once_flat_map_in, Each, each_map, IsFrom, from_both}
+use Rattle.query_laws.proofs.SkeletonOnceLaws.{in_level_pairs, next_each, levels_each, in_levels, skeletons_stand_once}
 
+-- the predicates, each once
+
+pub once_predicates : (task : TaskParts) (types : List ColType) → Once (predicates task types)
+once_predicates task types = once_preds (atom_list types task.constants) task.atoms (once_atoms types task.constants)
+
+pub once_filter_predicates : (task : TaskParts) (types : List ColType) → Once (filter_predicates task types)
+once_filter_predicates task types = (once_predicates task types).1
+
+-- what a function gives of each tree of one list with each of another
+
+pub in_of_each : {A : Type 0} (f : Tree → Tree → List A) (z : A) (xs ys : List Tree) → In z (of_each f xs ys) → (x y : Tree) × In x xs × In y ys × In z (f x y)
+in_of_each f z xs ys i =
+    let h = in_flat_map (λ x. flat_map (f x) ys) z xs i in
+    let g = in_flat_map (f h.0) z ys h.2 in
+    (h.0, g.0, h.1, g.1, g.2)
+
+pub once_of_each : {A : Type 0} (f : Tree → Tree → List A) → ((x y : Tree) → Once (f x y)) → ((a b c d : Tree) (z : A) → In z (f a b) → In z (f c d) → (a ≡ c) × (b ≡ d))
+    → (xs ys : List Tree) → Once xs → Once ys → Once (of_each f xs ys)
+once_of_each f each apart xs ys left right =
+    once_flat_map (λ x. flat_map (f x) ys)
+    (λ x. once_flat_map (f x) (each x) (λ b d z i j. (apart x b x d z i j).1) ys right)
+    (λ a c z i j. let h = in_flat_map (f a) z ys i in let g = in_flat_map (f c) z ys j in (apart a h.0 c g.0 z h.2 g.2).0)
+    xs left
+
+-- the bodies that fill a skeleton, by its kind
+
+pub in_filter_fillings : (task : TaskParts) (child : Tree) (p : Pred) (body : Tree) → In body (fillings task (t.filter child p))
+    → (c : Tree) × (q : Pred) × In c (fillings task child) × In q (filter_predicates task (columns task c)) × (body ≡ t.filter c q)
+in_filter_fillings task child p body i =
+    let h = in_flat_map (filters_filled task) body (fillings task child) i in
+    let g = in_map (t.filter h.0) body (filter_predicates task (columns task h.0)) h.2 in
+    (h.0, g.0, h.1, g.1, g.2)
+
+pub in_join_fillings : (task : TaskParts) (a b : Tree) (p : Pred) (body : Tree) → In body (fillings task (t.join a b p))
+    → (x y : Tree) × (q : Pred) × In x (fillings task a) × In y (fillings task b) × In q (predicates task (columns task x ++ columns task y)) × (body ≡ t.join x y q)
+in_join_fillings task a b p body i =
+    let h = in_of_each (joins_filled task) body (fillings task a) (fillings task b) i in
+    let g = in_map (t.join h.0 h.1) body (predicates task (columns task h.0 ++ columns task h.1)) h.4 in
+    (h.0, h.1, g.0, h.2, h.3, g.1, g.2)
+
+pub in_left_fillings : (task : TaskParts) (a b : Tree) (p : Pred) (body : Tree) → In body (fillings task (t.left a b p))
+    → (x y : Tree) × (q : Pred) × In x (fillings task a) × In y (fillings task b) × In q (predicates task (columns task x ++ columns task y)) × (body ≡ t.left x y q)
+in_left_fillings task a b p body i =
+    let h = in_of_each (lefts_filled task) body (fillings task a) (fillings task b) i in
+    let g = in_map (t.left h.0 h.1) body (predicates task (columns task h.0 ++ columns task h.1)) h.4 in
+    (h.0, h.1, g.0, h.2, h.3, g.1, g.2)
+
+pub in_group_fillings : (task : TaskParts) (child : Tree) (keys : List ℕ) (agg : Agg) (body : Tree) → In body (fillings task (t.group child keys agg))
+    → (c : Tree) × In c (fillings task child) × (body ≡ t.group c keys agg)
+in_group_fillings task child keys agg body i = in_map (λ c. t.group c keys agg) body (fillings task child) i
+
+pub in_union_all_fillings : (task : TaskParts) (a b body : Tree) → In body (fillings task (t.union_all a b))
+    → (x y : Tree) × In x (fillings task a) × In y (fillings task b) × (body ≡ t.union_all x y)
+in_union_all_fillings task a b body i =
+    let h = in_of_each (λ x y. t.union_all x y ∷ []) body (fillings task a) (fillings task b) i in
+    (h.0, h.1, h.2, h.3, in_one body (t.union_all h.0 h.1) h.4)
+
+pub in_union_fillings : (task : TaskParts) (a b body : Tree) → In body (fillings task (t.union a b))
+    → (x y : Tree) × In x (fillings task a) × In y (fillings task b) × (body ≡ t.union x y)
+in_union_fillings task a b body i =
+    let h = in_of_each (λ x y. t.union x y ∷ []) body (fillings task a) (fillings task b) i in
+    (h.0, h.1, h.2, h.3, in_one body (t.union h.0 h.1) h.4)
+
+-- a filled node tells its filled parts
+
+filters_apart : (task : TaskParts) (c d body : Tree) → In body (filters_filled task c) → In body (filters_filled task d) → c ≡ d
+filters_apart task c d body i j =
+    let h = in_map (t.filter c) body (filter_predicates task (columns task c)) i in
+    let g = in_map (t.filter d) body (filter_predicates task (columns task d)) j in
+    let e : t.filter c h.0 ≡ t.filter d g.0 = sym h.2 ∙ g.2 in
+    cc
+
+joins_apart : (task : TaskParts) (a b c d body : Tree) → In body (joins_filled task a b) → In body (joins_filled task c d) → (a ≡ c) × (b ≡ d)
+joins_apart task a b c d body i j =
+    let h = in_map (t.join a b) body (predicates task (columns task a ++ columns task b)) i in
+    let g = in_map (t.join c d) body (predicates task (columns task c ++ columns task d)) j in
+    let e : t.join a b h.0 ≡ t.join c d g.0 = sym h.2 ∙ g.2 in
+    (cc, cc)
+
+lefts_apart : (task : TaskParts) (a b c d body : Tree) → In body (lefts_filled task a b) → In body (lefts_filled task c d) → (a ≡ c) × (b ≡ d)
+lefts_apart task a b c d body i j =
+    let h = in_map (t.left a b) body (predicates task (columns task a ++ columns task b)) i in
+    let g = in_map (t.left c d) body (predicates task (columns task c ++ columns task d)) j in
+    let e : t.left a b h.0 ≡ t.left c d g.0 = sym h.2 ∙ g.2 in
+    (cc, cc)
+
+union_alls_apart : (a b c d body : Tree) → In body (t.union_all a b ∷ []) → In body (t.union_all c d ∷ []) → (a ≡ c) × (b ≡ d)
+union_alls_apart a b c d body i j =
+    let e : t.union_all a b ≡ t.union_all c d = sym (in_one body (t.union_all a b) i) ∙ in_one body (t.union_all c d) j in
+    (cc, cc)
+
+unions_apart : (a b c d body : Tree) → In body (t.union a b ∷ []) → In body (t.union c d ∷ []) → (a ≡ c) × (b ≡ d)
+unions_apart a b c d body i j =
+    let e : t.union a b ≡ t.union c d = sym (in_one body (t.union a b) i) ∙ in_one body (t.union c d) j in
+    (cc, cc)
+
+-- the fillings of a skeleton, each once
+
+once_filters_filled : (task : TaskParts) (child : Tree) → Once (filters_filled task child)
+once_filters_filled task child = once_map (t.filter child) (λ p q e. cc) (filter_predicates task (columns task child)) (once_filter_predicates task (columns task child))
+
+once_joins_filled : (task : TaskParts) (a b : Tree) → Once (joins_filled task a b)
+once_joins_filled task a b = once_map (t.join a b) (λ p q e. cc) (predicates task (columns task a ++ columns task b)) (once_predicates task (columns task a ++ columns task b))
+
+once_lefts_filled : (task : TaskParts) (a b : Tree) → Once (lefts_filled task a b)
+once_lefts_filled task a b = once_map (t.left a b) (λ p q e. cc) (predicates task (columns task a ++ columns task b)) (once_predicates task (columns task a ++ columns task b))
+
+pub once_fillings : (task : TaskParts) (skeleton : Tree) → Once (fillings task skeleton)
+once_fillings task (t.base table) = once_one (t.base table)
+once_fillings task (t.filter child p) = once_flat_map (filters_filled task) (once_filters_filled task) (filters_apart task) (fillings task child) (once_fillings task child)
+once_fillings task (t.join a b p) = once_of_each (joins_filled task) (once_joins_filled task) (joins_apart task) (fillings task a) (fillings task b) (once_fillings task a) (once_fillings task b)
+once_fillings task (t.left a b p) = once_of_each (lefts_filled task) (once_lefts_filled task) (lefts_apart task) (fillings task a) (fillings task b) (once_fillings task a) (once_fillings task b)
+once_fillings task (t.group child keys agg) = once_map (λ c. t.group c keys agg) (λ c d e. cc) (fillings task child) (once_fillings task child)
+once_fillings task (t.union_all a b) =
+    once_of_each (λ x y. t.union_all x y ∷ []) (λ x y. once_one (t.union_all x y)) union_alls_apart (fillings task a) (fillings task b) (once_fillings task a) (once_fillings task b)
+once_fillings task (t.union a b) =
+    once_of_each (λ x y. t.union x y ∷ []) (λ x y. once_one (t.union x y)) unions_apart (fillings task a) (fillings task b) (once_fillings task a) (once_fillings task b)
+
+-- a tree with each of its predicates open
+abbrev pub opened : Tree → Tree
+opened (t.base table) = t.base table
+opened (t.filter child p) = t.filter (opened child) Always
+opened (t.join a b p) = t.join (opened a) (opened b) Always
+opened (t.left a b p) = t.left (opened a) (opened b) Always
+opened (t.group child keys agg) = t.group (opened child) keys agg
+opened (t.union_all a b) = t.union_all (opened a) (opened b)
+opened (t.union a b) = t.union (opened a) (opened b)
+
+-- what fills a skeleton tells it
+pub opened_fillings : (task : TaskParts) (skeleton body : Tree) → In body (fillings task skeleton) → opened body ≡ opened skeleton
+opened_fillings task (t.base table) body i = ap opened (in_one body (t.base table) i)
+opened_fillings task (t.filter child p) body i =
+    let h = in_filter_fillings task child p body i in
+    ap opened h.4 ∙ ap (λ c. t.filter c Always) (opened_fillings task child h.0 h.2)
+opened_fillings task (t.join a b p) body i =
+    let h = in_join_fillings task a b p body i in
+    ap opened h.6 ∙ ap₂ (λ x y. t.join x y Always) (opened_fillings task a h.0 h.3) (opened_fillings task b h.1 h.4)
+opened_fillings task (t.left a b p) body i =
+    let h = in_left_fillings task a b p body i in
+    ap opened h.6 ∙ ap₂ (λ x y. t.left x y Always) (opened_fillings task a h.0 h.3) (opened_fillings task b h.1 h.4)
+opened_fillings task (t.group child keys agg) body i =
+    let h = in_group_fillings task child keys agg body i in
+    ap opened h.2 ∙ ap (λ c. t.group c keys agg) (opened_fillings task child h.0 h.1)
+opened_fillings task (t.union_all a b) body i =
+    let h = in_union_all_fillings task a b body i in
+    ap opened h.4 ∙ ap₂ t.union_all (opened_fillings task a h.0 h.2) (opened_fillings task b h.1 h.3)
+opened_fillings task (t.union a b) body i =
+    let h = in_union_fillings task a b body i in
+    ap opened h.4 ∙ ap₂ t.union (opened_fillings task a h.0 h.2) (opened_fillings task b h.1 h.3)
+
+-- the skeletons are open already
+
+opened_next : (task : TaskParts) (ls : List (List Tree)) → ((k : ℕ) → Each (λ x. opened x ≡ x) (level_at ls k)) → Each (λ x. opened x ≡ x) (next_level task ls)
+opened_next task ls each =
+    next_each task ls (λ x. opened x ≡ x)
+    (λ child i. ap (λ c. t.filter c Always) (each (length ls - 1) child i))
+    (λ p i.
+    let h = in_level_pairs ls p i in
+    let a = each h.0 p.0 h.2 in
+    let b = each (length ls - 1 - h.0) p.1 h.3 in
+    (ap₂ (λ x y. t.join x y Always) a b, ap₂ (λ x y. t.left x y Always) a b, ap₂ t.union_all a b, ap₂ t.union a b))
+    (λ keys agg child i. ap (λ c. t.group c keys agg) (each (length ls - 1) child i))
+
+pub opened_skeletons : (task : TaskParts) → Each (λ x. opened x ≡ x) (skeletons task)
+opened_skeletons task skeleton i =
+    let h = in_levels (levels task task.ops) skeleton i in
+    let each = levels_each task (λ k trees. Each (λ x. opened x ≡ x) trees) (λ k x i. absurd i) (each_map (λ x. opened x ≡ x) t.base _ (λ table i. refl)) (λ ls some each. opened_next task ls each) task.ops in
+    each h.0 skeleton h.1
+
+-- the places of the columns of a type ascend
+
+once_places_next : (type other : ColType) (at : ℕ) (types : List ColType) (b : Bool) → same_type type other ≡ b → IsFrom (λ place. place) (at + 1) (places_of type (at + 1) types)
+    → IsFrom (λ place. place) at (places_of type at (other ∷ types))
+once_places_next type other at types true is rest = rw is (from_both (λ place. place) at (at ∷ []) (places_of type (at + 1) types) (once_one at, λ place i. in_one place at i) rest)
+once_places_next type other at types false is rest = rw is (rest.0, λ place i. omega (arith, rest.1 place i))
+
+places_from : (type : ColType) (at : ℕ) (types : List ColType) → IsFrom (λ place. place) at (places_of type at types)
+places_from type at [] = (tt, λ place i. absurd i)
+places_from type at (other ∷ types) = once_places_next type other at types (same_type type other) refl (places_from type (at + 1) types)
+
+-- the maps that begin with a place
+abbrev maps_from : List ColType → List ColType → ℕ → List (List ℕ)
+maps_from body types at = map (λ rest. at ∷ rest) (maps body types)
+
+-- a map tells the place that it begins with
+place_same : (body types : List ColType) (at other : ℕ) (picks : List ℕ) → In picks (maps_from body types at) → In picks (maps_from body types other) → at ≡ other
+place_same body types at other picks i j =
+    let h = in_map (λ rest. at ∷ rest) picks (maps body types) i in
+    let g = in_map (λ rest. other ∷ rest) picks (maps body types) j in
+    let e : at ∷ h.0 ≡ other ∷ g.0 = sym h.2 ∙ g.2 in
+    cc
+
+-- each map stands once
+pub once_maps : (body types : List ColType) → Once (maps body types)
+once_maps body [] = (λ i. absurd i, tt)
+once_maps body (type ∷ types) =
+    once_flat_map (maps_from body types) (λ at. once_map (λ rest. at ∷ rest) (λ a b e. cc) (maps body types) (once_maps body types)) (place_same body types)
+    (places_of type 0 body) (places_from type 0 body).0
+
+-- the queries of a body, and of a skeleton
+
+in_flags : (body : Tree) (picks : List ℕ) (q : Select) → In q (with_flags body picks) → (q.body ≡ body) × (q.picks ≡ picks)
+in_flags body picks q (inl e) = (ap (λ s. s.body) e, ap (λ s. s.picks) e)
+in_flags body picks q (inr (inl e)) = (ap (λ s. s.body) e, ap (λ s. s.picks) e)
+in_flags body picks q (inr (inr i)) = absurd i
+
+once_flags : (body : Tree) (picks : List ℕ) → Once (with_flags body picks)
+once_flags body picks = (λ i. elim i [ inl e ↦ false≢true (ap (λ s. s.distinct) e) | inr j ↦ absurd j ], (λ i. absurd i, tt))
+
+pub in_body_queries : (task : TaskParts) (body : Tree) (q : Select) → In q (queries_of_body task body) → (q.body ≡ body) × In q.picks (maps (columns task body) (types_of task.output))
+in_body_queries task body q i =
+    let picked = maps (columns task body) (types_of task.output) in
+    let h = in_flat_map (with_flags body) q picked i in
+    let g = in_flags body h.0 q h.2 in
+    (g.0, in_same q.picks h.0 picked g.1 h.1)
+
+once_body_queries : (task : TaskParts) (body : Tree) → Once (queries_of_body task body)
+once_body_queries task body =
+    once_flat_map (with_flags body) (once_flags body) (λ picks others q i j. sym (in_flags body picks q i).1 ∙ (in_flags body others q j).1)
+    (maps (columns task body) (types_of task.output)) (once_maps (columns task body) (types_of task.output))
+
+pub in_queries_of : (task : TaskParts) (skeleton : Tree) (q : Select) → In q (queries_of task skeleton) → In q.body (fillings task skeleton) × In q.picks (maps (columns task q.body) (types_of task.output))
+in_queries_of task skeleton q i =
+    let h = in_flat_map (queries_of_body task) q (fillings task skeleton) i in
+    let g = in_body_queries task h.0 q h.2 in
+    (in_same q.body h.0 (fillings task skeleton) g.0 h.1, subst (λ body. In q.picks (maps (columns task body) (types_of task.output))) (sym g.0) g.1)
+
+pub once_queries_of : (task : TaskParts) (skeleton : Tree) → Once (queries_of task skeleton)
+once_queries_of task skeleton =
+    once_flat_map (queries_of_body task) (once_body_queries task) (λ body other q i j. sym (in_body_queries task body q i).0 ∙ (in_body_queries task other q j).0)
+    (fillings task skeleton) (once_fillings task skeleton)
+
+-- a query tells its skeleton
+pub skeleton_same : (task : TaskParts) (skeleton other : Tree) (q : Select) → In skeleton (skeletons task) → In other (skeletons task) → In q (queries_of task skeleton) → In q (queries_of task other) → skeleton ≡ other
+skeleton_same task skeleton other q a b i j =
+    let first = opened_fillings task skeleton q.body (in_queries_of task skeleton q i).0 in
+    let second = opened_fillings task other q.body (in_queries_of task other q j).0 in
+    sym (opened_skeletons task skeleton a) ∙ sym first ∙ second ∙ opened_skeletons task other b
+
+-- the queries, without the numbers of their skeletons, are those of each skeleton in order
+
+plain_from : (task : TaskParts) (at : ℕ) (trees : List Tree) → map (λ n. n.query) (flat_map (numbered task) (enumerate_from at trees)) ≡ flat_map (queries_of task) trees
+plain_from task at [] = refl
+plain_from task at (tree ∷ trees) =
+    map-append (λ n. n.query) (numbered task (at, tree)) (flat_map (numbered task) (enumerate_from (at + 1) trees))
+    ∙ ap₂ (λ front back. front ++ back) (map_twice (λ n. n.query) _ (queries_of task tree) ∙ map-id (queries_of task tree)) (plain_from task (at + 1) trees)
+
+pub plain_queries_are : (task : TaskParts) → plain_queries task ≡ flat_map (queries_of task) (skeletons task)
+plain_queries_are task = plain_from task 0 (skeletons task)
+
+-- each query stands once, from the front
+pub once_plain_queries : (task : TaskParts) → Once (plain_queries task)
+once_plain_queries task =
+    rw (plain_queries_are task) (once_flat_map_in (queries_of task) (skeletons task) (λ s i. once_queries_of task s) (skeleton_same task) (skeletons_stand_once task))
+
+-- and by places
 pub queries_once : (task : TaskParts) → EachOnce (plain_queries task)
-queries_once task = ?
+queries_once task = each_once (plain_queries task) (once_plain_queries task)
