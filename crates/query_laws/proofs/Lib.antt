@@ -1,6 +1,9 @@
 pub mod AnswerLaws
+pub mod GroupKeyLaws
 pub mod KeyLaws
+pub mod LevelLaws
 pub mod ListLaws
+pub mod MemberLaws
 pub mod QueryLaws
 pub mod RowLaws
 pub mod SkeletonLaws
