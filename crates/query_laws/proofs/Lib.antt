@@ -1,10 +1,13 @@
 pub mod AnswerLaws
 pub mod FillingLaws
 pub mod FirstCopyLaws
+pub mod GroupKeyLaws
 pub mod GroupLaws
 pub mod JoinedLists
 pub mod KeyLaws
+pub mod LevelLaws
 pub mod ListLaws
+pub mod MemberLaws
 pub mod QueryLaws
 pub mod RowLaws
 pub mod SkeletonLaws
