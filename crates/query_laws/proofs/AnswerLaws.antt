@@ -14,7 +14,7 @@ use Rattle.query_core.specs.Rank.{Key, key_order, before}
 use Rattle.query_core.specs.Answers.{RankedQuery, ranked, comes_before, placed, ascending, is_answer, found, answers}
 use Rattle.query_laws.specs.Laws.{key_of, TiesAreEqual, Ascends}
 use Rattle.query_laws.proofs.ListLaws.{at_in}
-use Rattle.query_laws.proofs.FirstCopyLaws.{in_filter}
+use Rattle.query_laws.proofs.MemberLaws.{in_filter}
 use Rattle.query_laws.proofs.KeyLaws.{keys_apart, key_order_total, ties_equal}
 
 -- each element of a list stands in a relation to each later one

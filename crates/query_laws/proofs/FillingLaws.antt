@@ -1,245 +1,134 @@
--- A filling of a skeleton is told by the numbers of its predicates.
-use Rattle.std.proofs.Common.{◌≡◌, refl, sym, ap, ◌∙◌, subst, ℕ, zero, suc, ◌+◌, Bool, true, false, Decides, ◌⊎◌, inl, inr, List, [], ◌∷◌, ◌++◌, map, length, drop, Option, Some, None, arith, length-append}
-use Rattle.std.specs.Prelude.{slice_get}
-use Rattle.std.specs.List.{flat_map, position_or_len}
-use Rattle.std.proofs.lemmas.Bool.{cases_Bool, false≢true}
-use Rattle.std.proofs.lemmas.Option.{same_Some}
-use Rattle.std.proofs.Math.Numerals.{one-add}
+-- The bodies that fill a skeleton: what they are by its kind, each once.
+use Rattle.std.proofs.Common.{◌≡◌, sym, ◌∙◌, ℕ, List, [], ◌∷◌, ◌++◌}
+use Rattle.std.specs.Prelude.{flat_map}
 use Rattle.value_core.specs.declared.value.ColType.{ColType}
+use Rattle.predicate_core.specs.Atoms.{atom_list}
 use Rattle.predicate_core.specs.declared.pred.Pred.{Pred}
-use Rattle.predicate_core.specs.Equal.{same_pred}
-use Rattle.predicate_core.proofs.SameLaws.{same_pred_decides}
-use Rattle.predicate_core.proofs.OnceLists.{In, in_append, in_map}
+use Rattle.predicate_core.proofs.OnceLists.{In, Once, in_map, once_map}
+use Rattle.predicate_core.proofs.OnceLaws.{once_atoms, once_preds}
 use Rattle.table_core.specs.declared.task.TaskParts.{TaskParts}
-use Rattle.query_core.specs.Tree.{Tree}
+use Rattle.query_core.specs.Tree.{Tree, Select}
 use Rattle.query_core.specs.Tree as t
 use Rattle.query_core.specs.Meaning.{columns}
-use Rattle.query_core.specs.Grammar.{predicates, filter_predicates, of_each, filters_filled, joins_filled, lefts_filled, fillings}
-use Rattle.query_core.specs.Rank.{pred_number, pred_numbers}
 use Rattle.query_core.specs.declared.agg.Agg.{Agg}
+use Rattle.query_core.specs.Grammar.{predicates, filter_predicates, of_each, filters_filled, joins_filled, lefts_filled, fillings}
+use Rattle.query_laws.proofs.MemberLaws.{in_one, in_flat_map}
+use Rattle.query_laws.proofs.JoinedLists.{once_one, once_flat_map}
 
--- an element of what is joined is given by an element
-pub in_joined : {X Y : Type 0} (f : X → List Y) (y : Y) (xs : List X) → In y (flat_map f xs) → (x : X) × In x xs × In y (f x)
-in_joined f y [] i = absurd i
-in_joined f y (x ∷ xs) i =
-    elim (in_append y (f x) (flat_map f xs) i) [
-      | inl here ↦ (x, inl refl, here)
-      | inr later ↦ let h = in_joined f y xs later in (h.0, inr h.1, h.2)
-    ]
+-- the predicates, each once
 
-in_drop_one : {X : Type 0} (x : X) (xs : List X) → In x (drop 1 xs) → In x xs
-in_drop_one x [] i = i
-in_drop_one x (y ∷ ys) i = inr i
+pub once_predicates : (task : TaskParts) (types : List ColType) → Once (predicates task types)
+once_predicates task types = once_preds (atom_list types task.constants) task.atoms (once_atoms types task.constants)
 
--- the elements at the first places that two tests find are told by these places
-position_at : {X : Type 0} (same : X → X → Bool) → ((a b : X) → Decides (same a b) (a ≡ b)) → (x : X) (xs : List X) → In x xs → slice_get xs (position_or_len (same x) xs) ≡ Some x
-position_at same decides x [] i = absurd i
-position_at same decides x (y ∷ ys) (inl e) = let is : same x y ≡ true = (decides x y).1 e in rw is (ap Some (sym e))
-position_at same decides x (y ∷ ys) (inr i) =
-    elim (cases_Bool (same x y)) [
-      | inl is ↦ rw is (ap Some (sym ((decides x y).0 is)))
-      | inr apart ↦ rw (apart, one-add) (position_at same decides x ys i)
-    ]
+pub once_filter_predicates : (task : TaskParts) (types : List ColType) → Once (filter_predicates task types)
+once_filter_predicates task types = (once_predicates task types).1
 
-position_tells : {X : Type 0} (same : X → X → Bool) → ((a b : X) → Decides (same a b) (a ≡ b)) → (x y : X) (xs : List X) → In x xs → In y xs
-    → position_or_len (same x) xs ≡ position_or_len (same y) xs → x ≡ y
-position_tells same decides x y xs i j e =
-    same_Some x y (sym (position_at same decides x xs i) ∙ ap (slice_get xs) e ∙ position_at same decides y xs j)
+-- what a function gives of each tree of one list with each of another
 
--- a predicate of a hole is told by its number
-number_tells : (task : TaskParts) (types : List ColType) (p q : Pred) → In p (predicates task types) → In q (predicates task types) → pred_number task types p ≡ pred_number task types q → p ≡ q
-number_tells task types p q i j e = position_tells same_pred same_pred_decides p q (predicates task types) i j e
+pub in_of_each : {A : Type 0} (f : Tree → Tree → List A) (z : A) (xs ys : List Tree) → In z (of_each f xs ys) → (x y : Tree) × In x xs × In y ys × In z (f x y)
+in_of_each f z xs ys i =
+    let h = in_flat_map (λ x. flat_map (f x) ys) z xs i in
+    let g = in_flat_map (f h.0) z ys h.2 in
+    (h.0, g.0, h.1, g.1, g.2)
 
--- two lists that are joined of parts of equal lengths have equal parts
-pub parts_same : {X : Type 0} (xs bs cs ds : List X) → length xs ≡ length bs → xs ++ cs ≡ bs ++ ds → (xs ≡ bs) × (cs ≡ ds)
-parts_same [] [] cs ds n e = (refl, e)
-parts_same [] (b ∷ bs) cs ds n e = cc
-parts_same (a ∷ xs) [] cs ds n e = cc
-parts_same (a ∷ xs) (b ∷ bs) cs ds n e =
-    let heads : a ≡ b = cc in
-    let tails : xs ++ cs ≡ bs ++ ds = cc in
-    let sizes : length xs ≡ length bs = omega (arith, n) in
-    let h = parts_same xs bs cs ds sizes tails in
-    let front : xs ≡ bs = h.0 in
-    (cc, h.1)
+pub once_of_each : {A : Type 0} (f : Tree → Tree → List A) → ((x y : Tree) → Once (f x y)) → ((a b c d : Tree) (z : A) → In z (f a b) → In z (f c d) → (a ≡ c) × (b ≡ d))
+    → (xs ys : List Tree) → Once xs → Once ys → Once (of_each f xs ys)
+once_of_each f each apart xs ys left right =
+    once_flat_map (λ x. flat_map (f x) ys)
+    (λ x. once_flat_map (f x) (each x) (λ b d z i j. (apart x b x d z i j).1) ys right)
+    (λ a c z i j. let h = in_flat_map (f a) z ys i in let g = in_flat_map (f c) z ys j in (apart a h.0 c g.0 z h.2 g.2).0)
+    xs left
 
--- the same with one element behind each
-last_same : {X : Type 0} (xs bs : List X) (c d : X) → length xs ≡ length bs → xs ++ c ∷ [] ≡ bs ++ d ∷ [] → (xs ≡ bs) × (c ≡ d)
-last_same xs bs c d n e = let h = parts_same xs bs (c ∷ []) (d ∷ []) n e in let ends : c ∷ [] ≡ d ∷ [] = h.1 in (h.0, cc)
+-- the bodies that fill a skeleton, by its kind
 
--- what a filling of each kind of skeleton is
+pub in_filter_fillings : (task : TaskParts) (child : Tree) (p : Pred) (body : Tree) → In body (fillings task (t.filter child p))
+    → (c : Tree) × (q : Pred) × In c (fillings task child) × In q (filter_predicates task (columns task c)) × (body ≡ t.filter c q)
+in_filter_fillings task child p body i =
+    let h = in_flat_map (filters_filled task) body (fillings task child) i in
+    let g = in_map (t.filter h.0) body (filter_predicates task (columns task h.0)) h.2 in
+    (h.0, g.0, h.1, g.1, g.2)
 
-pub in_filters : (task : TaskParts) (x child : Tree) (p : Pred) → In x (fillings task (t.filter child p))
-    → (c : Tree) × (q : Pred) × In c (fillings task child) × In q (predicates task (columns task c)) × (x ≡ t.filter c q)
-in_filters task x child p i =
-    let h = in_joined (filters_filled task) x (fillings task child) i in
-    let k = in_map (t.filter h.0) x (filter_predicates task (columns task h.0)) h.2 in
-    (h.0, k.0, h.1, in_drop_one k.0 (predicates task (columns task h.0)) k.1, k.2)
+pub in_join_fillings : (task : TaskParts) (a b : Tree) (p : Pred) (body : Tree) → In body (fillings task (t.join a b p))
+    → (x y : Tree) × (q : Pred) × In x (fillings task a) × In y (fillings task b) × In q (predicates task (columns task x ++ columns task y)) × (body ≡ t.join x y q)
+in_join_fillings task a b p body i =
+    let h = in_of_each (joins_filled task) body (fillings task a) (fillings task b) i in
+    let g = in_map (t.join h.0 h.1) body (predicates task (columns task h.0 ++ columns task h.1)) h.4 in
+    (h.0, h.1, g.0, h.2, h.3, g.1, g.2)
 
-in_each : {A : Type 0} (f : Tree → Tree → List A) (x : A) (xs bs : List Tree) → In x (of_each f xs bs) → (a : Tree) × (b : Tree) × In a xs × In b bs × In x (f a b)
-in_each f x xs bs i =
-    let h = in_joined (λ a. flat_map (f a) bs) x xs i in
-    let k = in_joined (f h.0) x bs h.2 in
-    (h.0, k.0, h.1, k.1, k.2)
+pub in_left_fillings : (task : TaskParts) (a b : Tree) (p : Pred) (body : Tree) → In body (fillings task (t.left a b p))
+    → (x y : Tree) × (q : Pred) × In x (fillings task a) × In y (fillings task b) × In q (predicates task (columns task x ++ columns task y)) × (body ≡ t.left x y q)
+in_left_fillings task a b p body i =
+    let h = in_of_each (lefts_filled task) body (fillings task a) (fillings task b) i in
+    let g = in_map (t.left h.0 h.1) body (predicates task (columns task h.0 ++ columns task h.1)) h.4 in
+    (h.0, h.1, g.0, h.2, h.3, g.1, g.2)
 
-pub in_joins : (task : TaskParts) (x a b : Tree) (p : Pred) → In x (fillings task (t.join a b p))
-    → (c : Tree) × (d : Tree) × (q : Pred) × In c (fillings task a) × In d (fillings task b) × In q (predicates task (columns task c ++ columns task d)) × (x ≡ t.join c d q)
-in_joins task x a b p i =
-    let h = in_each (joins_filled task) x (fillings task a) (fillings task b) i in
-    let k = in_map (t.join h.0 h.1) x (predicates task (columns task h.0 ++ columns task h.1)) h.4 in
-    (h.0, h.1, k.0, h.2, h.3, k.1, k.2)
+pub in_group_fillings : (task : TaskParts) (child : Tree) (keys : List ℕ) (agg : Agg) (body : Tree) → In body (fillings task (t.group child keys agg))
+    → (c : Tree) × In c (fillings task child) × (body ≡ t.group c keys agg)
+in_group_fillings task child keys agg body i = in_map (λ c. t.group c keys agg) body (fillings task child) i
 
-pub in_lefts : (task : TaskParts) (x a b : Tree) (p : Pred) → In x (fillings task (t.left a b p))
-    → (c : Tree) × (d : Tree) × (q : Pred) × In c (fillings task a) × In d (fillings task b) × In q (predicates task (columns task c ++ columns task d)) × (x ≡ t.left c d q)
-in_lefts task x a b p i =
-    let h = in_each (lefts_filled task) x (fillings task a) (fillings task b) i in
-    let k = in_map (t.left h.0 h.1) x (predicates task (columns task h.0 ++ columns task h.1)) h.4 in
-    (h.0, h.1, k.0, h.2, h.3, k.1, k.2)
+pub in_union_all_fillings : (task : TaskParts) (a b body : Tree) → In body (fillings task (t.union_all a b))
+    → (x y : Tree) × In x (fillings task a) × In y (fillings task b) × (body ≡ t.union_all x y)
+in_union_all_fillings task a b body i =
+    let h = in_of_each (λ x y. t.union_all x y ∷ []) body (fillings task a) (fillings task b) i in
+    (h.0, h.1, h.2, h.3, in_one body (t.union_all h.0 h.1) h.4)
 
-in_one : {X : Type 0} (x y : X) → In x (y ∷ []) → x ≡ y
-in_one x y (inl e) = e
-in_one x y (inr i) = absurd i
+pub in_union_fillings : (task : TaskParts) (a b body : Tree) → In body (fillings task (t.union a b))
+    → (x y : Tree) × In x (fillings task a) × In y (fillings task b) × (body ≡ t.union x y)
+in_union_fillings task a b body i =
+    let h = in_of_each (λ x y. t.union x y ∷ []) body (fillings task a) (fillings task b) i in
+    (h.0, h.1, h.2, h.3, in_one body (t.union h.0 h.1) h.4)
 
-pub in_group : (task : TaskParts) (x child : Tree) (keys : List ℕ) (agg : Agg) → In x (fillings task (t.group child keys agg))
-    → (c : Tree) × In c (fillings task child) × (x ≡ t.group c keys agg)
-in_group task x child keys agg i = in_map (λ c. t.group c keys agg) x (fillings task child) i
+-- a filled node tells its filled parts
 
-pub in_union_alls : (task : TaskParts) (x a b : Tree) → In x (fillings task (t.union_all a b))
-    → (c : Tree) × (d : Tree) × In c (fillings task a) × In d (fillings task b) × (x ≡ t.union_all c d)
-in_union_alls task x a b i =
-    let h = in_each (λ c d. t.union_all c d ∷ []) x (fillings task a) (fillings task b) i in
-    (h.0, h.1, h.2, h.3, in_one x (t.union_all h.0 h.1) h.4)
-
-pub in_unions : (task : TaskParts) (x a b : Tree) → In x (fillings task (t.union a b))
-    → (c : Tree) × (d : Tree) × In c (fillings task a) × In d (fillings task b) × (x ≡ t.union c d)
-in_unions task x a b i =
-    let h = in_each (λ c d. t.union c d ∷ []) x (fillings task a) (fillings task b) i in
-    (h.0, h.1, h.2, h.3, in_one x (t.union h.0 h.1) h.4)
-
--- how many holes a skeleton has
-abbrev holes : Tree → ℕ
-holes (t.base table) = 0
-holes (t.filter child p) = holes child + 1
-holes (t.join a b p) = (holes a + holes b) + 1
-holes (t.left a b p) = (holes a + holes b) + 1
-holes (t.group child keys agg) = holes child
-holes (t.union_all a b) = holes a + holes b
-holes (t.union a b) = holes a + holes b
-
-one_more : (xs : List ℕ) (n size : ℕ) → length xs ≡ size → length (xs ++ n ∷ []) ≡ size + 1
-one_more xs n size is = let long = length-append xs (n ∷ []) in omega (arith, is, long)
-
-two_and_one : (xs ys : List ℕ) (n left right : ℕ) → length xs ≡ left → length ys ≡ right → length ((xs ++ ys) ++ n ∷ []) ≡ (left + right) + 1
-two_and_one xs ys n left right is js = let long = length-append xs ys in one_more (xs ++ ys) n (left + right) (omega (arith, is, js, long))
-
-two_sizes : (xs ys : List ℕ) (left right : ℕ) → length xs ≡ left → length ys ≡ right → length (xs ++ ys) ≡ left + right
-two_sizes xs ys left right is js = let long = length-append xs ys in omega (arith, is, js, long)
-
--- a filling has a number for each hole
-numbers_of_holes : (task : TaskParts) (s x : Tree) → In x (fillings task s) → length (pred_numbers task x) ≡ holes s
-numbers_of_holes task (t.base table) x i = rw (in_one x (t.base table) i) refl
-numbers_of_holes task (t.filter child p) x i =
-    let h = in_filters task x child p i in
-    rw h.4 (one_more (pred_numbers task h.0) (pred_number task (columns task h.0) h.1) (holes child) (numbers_of_holes task child h.0 h.2))
-numbers_of_holes task (t.join a b p) x i =
-    let h = in_joins task x a b p i in
-    rw h.6 (two_and_one (pred_numbers task h.0) (pred_numbers task h.1) (pred_number task (columns task h.0 ++ columns task h.1) h.2) (holes a) (holes b) (numbers_of_holes task a h.0 h.3) (numbers_of_holes task b h.1 h.4))
-numbers_of_holes task (t.left a b p) x i =
-    let h = in_lefts task x a b p i in
-    rw h.6 (two_and_one (pred_numbers task h.0) (pred_numbers task h.1) (pred_number task (columns task h.0 ++ columns task h.1) h.2) (holes a) (holes b) (numbers_of_holes task a h.0 h.3) (numbers_of_holes task b h.1 h.4))
-numbers_of_holes task (t.group child keys agg) x i =
-    let h = in_group task x child keys agg i in
-    rw h.2 (numbers_of_holes task child h.0 h.1)
-numbers_of_holes task (t.union_all a b) x i =
-    let h = in_union_alls task x a b i in
-    rw h.4 (two_sizes (pred_numbers task h.0) (pred_numbers task h.1) (holes a) (holes b) (numbers_of_holes task a h.0 h.2) (numbers_of_holes task b h.1 h.3))
-numbers_of_holes task (t.union a b) x i =
-    let h = in_unions task x a b i in
-    rw h.4 (two_sizes (pred_numbers task h.0) (pred_numbers task h.1) (holes a) (holes b) (numbers_of_holes task a h.0 h.2) (numbers_of_holes task b h.1 h.3))
-
--- two fillings of a skeleton have as many numbers
-as_many : (task : TaskParts) (s x y : Tree) → In x (fillings task s) → In y (fillings task s) → length (pred_numbers task x) ≡ length (pred_numbers task y)
-as_many task s x y i j = numbers_of_holes task s x i ∙ sym (numbers_of_holes task s y j)
-
--- two nodes of equal parts, whose predicates have one number, are one
-filter_same : (task : TaskParts) (c d : Tree) (p q : Pred) → c ≡ d → In p (predicates task (columns task c)) → In q (predicates task (columns task d))
-    → pred_number task (columns task c) p ≡ pred_number task (columns task d) q → t.filter c p ≡ t.filter d q
-filter_same task c d p q same i j e =
-    let k : In q (predicates task (columns task c)) = subst (λ (z : Tree). In q (predicates task (columns task z))) (sym same) j in
-    let n : pred_number task (columns task c) p ≡ pred_number task (columns task c) q = e ∙ ap (λ z. pred_number task (columns task z) q) (sym same) in
-    let preds : p ≡ q = number_tells task (columns task c) p q i k n in
+filters_apart : (task : TaskParts) (c d body : Tree) → In body (filters_filled task c) → In body (filters_filled task d) → c ≡ d
+filters_apart task c d body i j =
+    let h = in_map (t.filter c) body (filter_predicates task (columns task c)) i in
+    let g = in_map (t.filter d) body (filter_predicates task (columns task d)) j in
+    let e : t.filter c h.0 ≡ t.filter d g.0 = sym h.2 ∙ g.2 in
     cc
 
--- the predicates of two joins of equal parts are one where they have one number
-pair_pred_same : (task : TaskParts) (a b c d : Tree) (p q : Pred) → a ≡ c → b ≡ d → In p (predicates task (columns task a ++ columns task b)) → In q (predicates task (columns task c ++ columns task d))
-    → pred_number task (columns task a ++ columns task b) p ≡ pred_number task (columns task c ++ columns task d) q → p ≡ q
-pair_pred_same task a b c d p q left right i j e =
-    let types : columns task c ++ columns task d ≡ columns task a ++ columns task b = cc in
-    let k : In q (predicates task (columns task a ++ columns task b)) = rw types at j in
-    let n : pred_number task (columns task a ++ columns task b) p ≡ pred_number task (columns task a ++ columns task b) q = rw types at e in
-    number_tells task (columns task a ++ columns task b) p q i k n
+joins_apart : (task : TaskParts) (a b c d body : Tree) → In body (joins_filled task a b) → In body (joins_filled task c d) → (a ≡ c) × (b ≡ d)
+joins_apart task a b c d body i j =
+    let h = in_map (t.join a b) body (predicates task (columns task a ++ columns task b)) i in
+    let g = in_map (t.join c d) body (predicates task (columns task c ++ columns task d)) j in
+    let e : t.join a b h.0 ≡ t.join c d g.0 = sym h.2 ∙ g.2 in
+    (cc, cc)
 
--- the numbers of two parts and of the node over them
-three_same : (xs bs cs ds : List ℕ) (m n : ℕ) → length xs ≡ length cs → length bs ≡ length ds → (xs ++ bs) ++ m ∷ [] ≡ (cs ++ ds) ++ n ∷ [] → (xs ≡ cs) × (bs ≡ ds) × (m ≡ n)
-three_same xs bs cs ds m n left right e =
-    let here = length-append xs bs in
-    let there = length-append cs ds in
-    let sizes : length (xs ++ bs) ≡ length (cs ++ ds) = omega (arith, left, right, here, there) in
-    let h = last_same (xs ++ bs) (cs ++ ds) m n sizes e in
-    let k = parts_same xs cs bs ds left h.0 in
-    (k.0, k.1, h.1)
+lefts_apart : (task : TaskParts) (a b c d body : Tree) → In body (lefts_filled task a b) → In body (lefts_filled task c d) → (a ≡ c) × (b ≡ d)
+lefts_apart task a b c d body i j =
+    let h = in_map (t.left a b) body (predicates task (columns task a ++ columns task b)) i in
+    let g = in_map (t.left c d) body (predicates task (columns task c ++ columns task d)) j in
+    let e : t.left a b h.0 ≡ t.left c d g.0 = sym h.2 ∙ g.2 in
+    (cc, cc)
 
--- two fillings of a skeleton with the same numbers of predicates are one
-pub numbers_tell : (task : TaskParts) (s x y : Tree) → In x (fillings task s) → In y (fillings task s) → pred_numbers task x ≡ pred_numbers task y → x ≡ y
-numbers_tell task (t.base table) x y i j e = in_one x (t.base table) i ∙ sym (in_one y (t.base table) j)
-numbers_tell task (t.filter child p) x y i j e =
-    let h = in_filters task x child p i in
-    let k = in_filters task y child p j in
-    let numbers : pred_numbers task (t.filter h.0 h.1) ≡ pred_numbers task (t.filter k.0 k.1) = sym (ap (pred_numbers task) h.4) ∙ e ∙ ap (pred_numbers task) k.4 in
-    let parts = last_same (pred_numbers task h.0) (pred_numbers task k.0) _ _ (as_many task child h.0 k.0 h.2 k.2) numbers in
-    let node = filter_same task h.0 k.0 h.1 k.1 (numbers_tell task child h.0 k.0 h.2 k.2 parts.0) h.3 k.3 parts.1 in
-    h.4 ∙ node ∙ sym k.4
-numbers_tell task (t.join a b p) x y i j e =
-    let h = in_joins task x a b p i in
-    let k = in_joins task y a b p j in
-    let numbers : pred_numbers task (t.join h.0 h.1 h.2) ≡ pred_numbers task (t.join k.0 k.1 k.2) = sym (ap (pred_numbers task) h.6) ∙ e ∙ ap (pred_numbers task) k.6 in
-    let parts = three_same (pred_numbers task h.0) (pred_numbers task h.1) (pred_numbers task k.0) (pred_numbers task k.1) _ _ (as_many task a h.0 k.0 h.3 k.3) (as_many task b h.1 k.1 h.4 k.4) numbers in
-    let left : h.0 ≡ k.0 = numbers_tell task a h.0 k.0 h.3 k.3 parts.0 in
-    let right : h.1 ≡ k.1 = numbers_tell task b h.1 k.1 h.4 k.4 parts.1 in
-    let preds : h.2 ≡ k.2 = pair_pred_same task h.0 h.1 k.0 k.1 h.2 k.2 left right h.5 k.5 parts.2 in
-    let node : t.join h.0 h.1 h.2 ≡ t.join k.0 k.1 k.2 = cc in
-    h.6 ∙ node ∙ sym k.6
-numbers_tell task (t.left a b p) x y i j e =
-    let h = in_lefts task x a b p i in
-    let k = in_lefts task y a b p j in
-    let numbers : pred_numbers task (t.left h.0 h.1 h.2) ≡ pred_numbers task (t.left k.0 k.1 k.2) = sym (ap (pred_numbers task) h.6) ∙ e ∙ ap (pred_numbers task) k.6 in
-    let parts = three_same (pred_numbers task h.0) (pred_numbers task h.1) (pred_numbers task k.0) (pred_numbers task k.1) _ _ (as_many task a h.0 k.0 h.3 k.3) (as_many task b h.1 k.1 h.4 k.4) numbers in
-    let left : h.0 ≡ k.0 = numbers_tell task a h.0 k.0 h.3 k.3 parts.0 in
-    let right : h.1 ≡ k.1 = numbers_tell task b h.1 k.1 h.4 k.4 parts.1 in
-    let preds : h.2 ≡ k.2 = pair_pred_same task h.0 h.1 k.0 k.1 h.2 k.2 left right h.5 k.5 parts.2 in
-    let node : t.left h.0 h.1 h.2 ≡ t.left k.0 k.1 k.2 = cc in
-    h.6 ∙ node ∙ sym k.6
-numbers_tell task (t.group child keys agg) x y i j e =
-    let h = in_group task x child keys agg i in
-    let k = in_group task y child keys agg j in
-    let numbers : pred_numbers task h.0 ≡ pred_numbers task k.0 = sym (ap (pred_numbers task) h.2) ∙ e ∙ ap (pred_numbers task) k.2 in
-    let part : h.0 ≡ k.0 = numbers_tell task child h.0 k.0 h.1 k.1 numbers in
-    h.2 ∙ ap (λ c. t.group c keys agg) part ∙ sym k.2
-numbers_tell task (t.union_all a b) x y i j e =
-    let h = in_union_alls task x a b i in
-    let k = in_union_alls task y a b j in
-    let numbers : pred_numbers task h.0 ++ pred_numbers task h.1 ≡ pred_numbers task k.0 ++ pred_numbers task k.1 = sym (ap (pred_numbers task) h.4) ∙ e ∙ ap (pred_numbers task) k.4 in
-    let parts = parts_same (pred_numbers task h.0) (pred_numbers task k.0) (pred_numbers task h.1) (pred_numbers task k.1) (as_many task a h.0 k.0 h.2 k.2) numbers in
-    let left : h.0 ≡ k.0 = numbers_tell task a h.0 k.0 h.2 k.2 parts.0 in
-    let right : h.1 ≡ k.1 = numbers_tell task b h.1 k.1 h.3 k.3 parts.1 in
-    let node : t.union_all h.0 h.1 ≡ t.union_all k.0 k.1 = cc in
-    h.4 ∙ node ∙ sym k.4
-numbers_tell task (t.union a b) x y i j e =
-    let h = in_unions task x a b i in
-    let k = in_unions task y a b j in
-    let numbers : pred_numbers task h.0 ++ pred_numbers task h.1 ≡ pred_numbers task k.0 ++ pred_numbers task k.1 = sym (ap (pred_numbers task) h.4) ∙ e ∙ ap (pred_numbers task) k.4 in
-    let parts = parts_same (pred_numbers task h.0) (pred_numbers task k.0) (pred_numbers task h.1) (pred_numbers task k.1) (as_many task a h.0 k.0 h.2 k.2) numbers in
-    let left : h.0 ≡ k.0 = numbers_tell task a h.0 k.0 h.2 k.2 parts.0 in
-    let right : h.1 ≡ k.1 = numbers_tell task b h.1 k.1 h.3 k.3 parts.1 in
-    let node : t.union h.0 h.1 ≡ t.union k.0 k.1 = cc in
-    h.4 ∙ node ∙ sym k.4
+union_alls_apart : (a b c d body : Tree) → In body (t.union_all a b ∷ []) → In body (t.union_all c d ∷ []) → (a ≡ c) × (b ≡ d)
+union_alls_apart a b c d body i j =
+    let e : t.union_all a b ≡ t.union_all c d = sym (in_one body (t.union_all a b) i) ∙ in_one body (t.union_all c d) j in
+    (cc, cc)
+
+unions_apart : (a b c d body : Tree) → In body (t.union a b ∷ []) → In body (t.union c d ∷ []) → (a ≡ c) × (b ≡ d)
+unions_apart a b c d body i j =
+    let e : t.union a b ≡ t.union c d = sym (in_one body (t.union a b) i) ∙ in_one body (t.union c d) j in
+    (cc, cc)
+
+-- the fillings of a skeleton, each once
+
+once_filters_filled : (task : TaskParts) (child : Tree) → Once (filters_filled task child)
+once_filters_filled task child = once_map (t.filter child) (λ p q e. cc) (filter_predicates task (columns task child)) (once_filter_predicates task (columns task child))
+
+once_joins_filled : (task : TaskParts) (a b : Tree) → Once (joins_filled task a b)
+once_joins_filled task a b = once_map (t.join a b) (λ p q e. cc) (predicates task (columns task a ++ columns task b)) (once_predicates task (columns task a ++ columns task b))
+
+once_lefts_filled : (task : TaskParts) (a b : Tree) → Once (lefts_filled task a b)
+once_lefts_filled task a b = once_map (t.left a b) (λ p q e. cc) (predicates task (columns task a ++ columns task b)) (once_predicates task (columns task a ++ columns task b))
+
+pub once_fillings : (task : TaskParts) (skeleton : Tree) → Once (fillings task skeleton)
+once_fillings task (t.base table) = once_one (t.base table)
+once_fillings task (t.filter child p) = once_flat_map (filters_filled task) (once_filters_filled task) (filters_apart task) (fillings task child) (once_fillings task child)
+once_fillings task (t.join a b p) = once_of_each (joins_filled task) (once_joins_filled task) (joins_apart task) (fillings task a) (fillings task b) (once_fillings task a) (once_fillings task b)
+once_fillings task (t.left a b p) = once_of_each (lefts_filled task) (once_lefts_filled task) (lefts_apart task) (fillings task a) (fillings task b) (once_fillings task a) (once_fillings task b)
+once_fillings task (t.group child keys agg) = once_map (λ c. t.group c keys agg) (λ c d e. cc) (fillings task child) (once_fillings task child)
+once_fillings task (t.union_all a b) =
+    once_of_each (λ x y. t.union_all x y ∷ []) (λ x y. once_one (t.union_all x y)) union_alls_apart (fillings task a) (fillings task b) (once_fillings task a) (once_fillings task b)
+once_fillings task (t.union a b) =
+    once_of_each (λ x y. t.union x y ∷ []) (λ x y. once_one (t.union x y)) unions_apart (fillings task a) (fillings task b) (once_fillings task a) (once_fillings task b)

@@ -1,5 +1,5 @@
--- Filters, parts of lists, and first copies.
-use Rattle.std.proofs.Common.{◌≡◌, refl, sym, ap, ◌∙◌, Bool, true, false, not, List, [], ◌∷◌, map, inl, inr}
+-- Parts of lists, and first copies.
+use Rattle.std.proofs.Common.{◌≡◌, refl, sym, ap, ◌∙◌, Bool, true, false, not, List, [], ◌∷◌, inl, inr}
 use Rattle.std.specs.Prelude.{filter}
 use Rattle.std.specs.List.{list_any}
 use Rattle.std.proofs.lemmas.Bool.{cases_Bool, false≢true, or_parts, not_from_true, not_from_false}
@@ -9,43 +9,8 @@ use Rattle.table_core.specs.Bag.{same_cells, has_double}
 use Rattle.table_core.proofs.BagLaws.{same_cells_decides}
 use Rattle.query_core.specs.Firsts.{firsts}
 use Rattle.query_laws.specs.Parts.{IsPart}
-
--- what a function gives of an element is in what it gives of the list
-pub in_mapped : {X Y : Type 0} (f : X → Y) (x : X) (xs : List X) → In x xs → In (f x) (map f xs)
-in_mapped f x [] i = absurd i
-in_mapped f x (y ∷ ys) (inl e) = inl (ap f e)
-in_mapped f x (y ∷ ys) (inr i) = inr (in_mapped f x ys i)
-
--- what a filter keeps is an element that passes the test
-pub in_filter : {X : Type 0} (p : X → Bool) (x : X) (xs : List X) → In x (filter p xs) → In x xs × (p x ≡ true)
-in_filter p x [] i = absurd i
-in_filter p x (y ∷ ys) i =
-    elim (cases_Bool (p y)) [
-      | inl holds ↦ let j : In x (y ∷ filter p ys) = rw holds at i in elim j [
-        | inl e ↦ (inl e, ap p e ∙ holds)
-        | inr rest ↦ let h = in_filter p x ys rest in (inr h.0, h.1)
-      ]
-      | inr fails ↦ let h = in_filter p x ys (rw fails at i) in (inr h.0, h.1)
-    ]
-
--- an element that passes the test is kept
-pub in_kept : {X : Type 0} (p : X → Bool) (x : X) (xs : List X) → In x xs → p x ≡ true → In x (filter p xs)
-in_kept p x [] i passes = absurd i
-in_kept p x (y ∷ ys) (inl e) passes = rw (sym (ap p e) ∙ passes) (inl e)
-in_kept p x (y ∷ ys) (inr i) passes =
-    elim (cases_Bool (p y)) [
-      | inl holds ↦ rw holds (inr (in_kept p x ys i passes))
-      | inr fails ↦ rw fails (in_kept p x ys i passes)
-    ]
-
--- what stands once stands once among what is kept
-pub once_filter : {X : Type 0} (p : X → Bool) (xs : List X) → Once xs → Once (filter p xs)
-once_filter p [] once = tt
-once_filter p (x ∷ xs) once =
-    elim (cases_Bool (p x)) [
-      | inl holds ↦ rw holds (λ i. once.0 (in_filter p x xs i).0, once_filter p xs once.1)
-      | inr fails ↦ rw fails (once_filter p xs once.1)
-    ]
+use Rattle.query_laws.proofs.MemberLaws.{in_filter, filter_in}
+use Rattle.query_laws.proofs.JoinedLists.{once_filter}
 
 -- two filters go in either order
 pub filter_swap : {X : Type 0} (p q : X → Bool) (xs : List X) → filter p (filter q xs) ≡ filter q (filter p xs)
@@ -122,7 +87,7 @@ in_firsts y (x ∷ rows) (inl e) = inl e
 in_firsts y (x ∷ rows) (inr i) =
     elim (cases_Bool (same_cells y x)) [
       | inl same ↦ inl ((same_cells_decides y x).0 same)
-      | inr other ↦ inr (in_kept (λ r. not (same_cells r x)) y (firsts rows) (in_firsts y rows i) (not_from_false (same_cells y x) other))
+      | inr other ↦ inr (filter_in (λ r. not (same_cells r x)) y (firsts rows) (not_from_false (same_cells y x) other) (in_firsts y rows i))
     ]
 
 -- the first copies are a part of the rows

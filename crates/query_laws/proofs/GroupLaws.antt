@@ -13,7 +13,8 @@ use Rattle.query_core.specs.declared.agg.Agg.{Agg}
 use Rattle.query_laws.specs.Laws.{IsGroupRow}
 use Rattle.query_laws.specs.Parts.{IsPart}
 use Rattle.query_laws.proofs.ListLaws.{at_in}
-use Rattle.query_laws.proofs.FirstCopyLaws.{in_mapped, in_filter, in_kept, in_part, kept_part, once_firsts, in_firsts, part_firsts}
+use Rattle.query_laws.proofs.MemberLaws.{map_in, in_filter, filter_in}
+use Rattle.query_laws.proofs.FirstCopyLaws.{in_part, kept_part, once_firsts, in_firsts, part_firsts}
 
 -- each key stands once
 pub once_keys : (keys : List ℕ) (rows : List Row) → Once (group_keys keys rows)
@@ -23,7 +24,7 @@ once_keys (k ∷ ks) rows = once_firsts (map (projected (k ∷ ks)) rows)
 -- each row's key is one of the keys
 pub in_keys : (keys : List ℕ) (row : Row) (rows : List Row) → In row rows → In (projected keys row) (group_keys keys rows)
 in_keys [] row rows i = inl refl
-in_keys (k ∷ ks) row rows i = in_firsts _ _ (in_mapped (projected (k ∷ ks)) row rows i)
+in_keys (k ∷ ks) row rows i = in_firsts _ _ (map_in (projected (k ∷ ks)) row rows i)
 
 -- with key columns each key is that of a row
 pub row_of_key : (k : ℕ) (ks : List ℕ) (rows : List Row) (key : Row) → In key (group_keys (k ∷ ks) rows) → (row : Row) × In row rows × (key ≡ projected (k ∷ ks) row)
@@ -40,7 +41,7 @@ keys_of_part (k ∷ ks) part rows key h i =
 
 -- the members of a key are the rows that have it
 pub in_members : (keys : List ℕ) (rows : List Row) (row key : Row) → In row rows → projected keys row ≡ key → In row (members keys rows key)
-in_members keys rows row key i e = in_kept (λ r. same_cells (projected keys r) key) row rows i ((same_cells_decides (projected keys row) key).1 e)
+in_members keys rows row key i e = filter_in (λ r. same_cells (projected keys r) key) row rows ((same_cells_decides (projected keys row) key).1 e) i
 
 pub from_members : (keys : List ℕ) (rows : List Row) (row key : Row) → In row (members keys rows key) → In row rows × (projected keys row ≡ key)
 from_members keys rows row key i =

@@ -1,45 +1,23 @@
 -- Laws of lists in which each element stands once, and that are kept or joined of others.
-use Rattle.std.proofs.Common.{◌≡◌, refl, sym, ap, ◌∙◌, subst, ℕ, zero, suc, ◌+◌, ◌<◌, ◌≤◌, Bool, true, false, inl, inr, List, [], ◌∷◌, ◌++◌, map, arith}
+use Rattle.std.proofs.Common.{◌≡◌, refl, sym, ap, ◌∙◌, subst, ℕ, zero, suc, ◌+◌, ◌≤◌, Bool, true, false, inl, inr, List, [], ◌∷◌, ◌++◌, map, arith}
 use Rattle.std.specs.Prelude.{filter as list_filter, flat_map}
 use Rattle.std.specs.List.{range_with_len}
+use Rattle.std.proofs.lemmas.List.{map-append}
 use Rattle.predicate_core.proofs.OnceLists.{In, Once, in_same, in_append, in_map, once_append, once_map}
+use Rattle.query_laws.proofs.MemberLaws.{in_filter, in_flat_map, in_range}
 
--- a list of one
-
-pub in_one : {X : Type 0} (x y : X) → In x (y ∷ []) → x ≡ y
-in_one x y (inl e) = e
-in_one x y (inr i) = absurd i
-
+-- the element of a list of one stands once
 pub once_one : {X : Type 0} (x : X) → Once (x ∷ [])
 once_one x = (λ i. absurd i, tt)
 
--- what is kept of a list
-
-in_filter_next : {X : Type 0} (test : X → Bool) (x y : X) (ys : List X) (b : Bool) → test y ≡ b → (In x (list_filter test ys) → In x ys) → In x (list_filter test (y ∷ ys)) → In x (y ∷ ys)
-in_filter_next test x y ys true is rest i = elim (rw is at i) [ inl e ↦ inl e | inr j ↦ inr (rest j) ]
-in_filter_next test x y ys false is rest i = inr (rest (rw is at i))
-
-pub in_filter : {X : Type 0} (test : X → Bool) (x : X) (xs : List X) → In x (list_filter test xs) → In x xs
-in_filter test x [] i = absurd i
-in_filter test x (y ∷ ys) i = in_filter_next test x y ys (test y) refl (in_filter test x ys) i
-
+-- what stands once stands once among what is kept
 once_filter_next : {X : Type 0} (test : X → Bool) (x : X) (xs : List X) (b : Bool) → test x ≡ b → (In x xs → ⊥) → Once (list_filter test xs) → Once (list_filter test (x ∷ xs))
-once_filter_next test x xs true is new once = rw is (λ i. new (in_filter test x xs i), once)
+once_filter_next test x xs true is new once = rw is (λ i. new (in_filter test x xs i).0, once)
 once_filter_next test x xs false is new once = rw is once
 
 pub once_filter : {X : Type 0} (test : X → Bool) (xs : List X) → Once xs → Once (list_filter test xs)
 once_filter test [] once = tt
 once_filter test (x ∷ xs) once = once_filter_next test x xs (test x) refl once.0 (once_filter test xs once.1)
-
--- what is joined of the elements of a list
-
-pub in_flat_map : {X Y : Type 0} (f : X → List Y) (y : Y) (xs : List X) → In y (flat_map f xs) → (x : X) × In x xs × In y (f x)
-in_flat_map f y [] i = absurd i
-in_flat_map f y (x ∷ xs) i =
-    elim (in_append y (f x) (flat_map f xs) i) [
-      | inl a ↦ (x, inl refl, a)
-      | inr b ↦ let h = in_flat_map f y xs b in (h.0, inr h.1, h.2)
-    ]
 
 -- where the elements' lists are apart, and in each of them each stands once, each stands once in what is joined
 pub once_flat_map_in : {X Y : Type 0} (f : X → List Y) (xs : List X) → ((x : X) → In x xs → Once (f x)) → ((x z : X) (y : Y) → In x xs → In z xs → In y (f x) → In y (f z) → x ≡ z)
@@ -52,19 +30,23 @@ once_flat_map_in f (x ∷ xs) each apart once =
 pub once_flat_map : {X Y : Type 0} (f : X → List Y) → ((x : X) → Once (f x)) → ((x z : X) (y : Y) → In y (f x) → In y (f z) → x ≡ z) → (xs : List X) → Once xs → Once (flat_map f xs)
 once_flat_map f each apart xs once = once_flat_map_in f xs (λ x i. each x) (λ x z y i j. apart x z y) once
 
--- the numbers of a range, each once
+map_joined : {X Y Z : Type 0} (f : Y → Z) (g : X → List Y) (xs : List X) → map f (flat_map g xs) ≡ flat_map (λ x. map f (g x)) xs
+map_joined f g [] = refl
+map_joined f g (x ∷ xs) = map-append f (g x) (flat_map g xs) ∙ ap (λ t. map f (g x) ++ t) (map_joined f g xs)
 
-pub in_range : (x at n : ℕ) → In x (range_with_len at n) → (at ≤ x) × (x < at + n)
-in_range x at zero i = absurd i
-in_range x at (suc n) (inl e) = (omega arith, omega arith)
-in_range x at (suc n) (inr i) = let h = in_range x (at + 1) n i in (omega arith, omega arith)
+-- what a function gives of the elements of joined lists is each given once, where it tells which list an element is of
+pub once_joined : {X Y Z : Type 0} (f : Y → Z) (g : X → List Y) (xs : List X) → Once xs → ((x : X) → In x xs → Once (map f (g x)))
+    → ((x y : X) → In x xs → In y xs → (a b : Y) → In a (g x) → In b (g y) → f a ≡ f b → x ≡ y) → Once (map f (flat_map g xs))
+once_joined f g xs once each tells =
+    rw (map_joined f g xs) (once_flat_map_in (λ x. map f (g x)) xs each
+    (λ x y z i j here there. let a = in_map f z (g x) here in let b = in_map f z (g y) there in tells x y i j a.0 b.0 a.1 b.1 (sym a.2 ∙ b.2)) once)
 
+-- the numbers of a range stand once
 pub once_range : (at n : ℕ) → Once (range_with_len at n)
 once_range at zero = tt
-once_range at (suc n) = (λ i. let h = in_range at (at + 1) n i in omega (arith, h.0), once_range (at + 1) n)
+once_range at (suc n) = (λ i. let h = in_range (at + 1) n at i in omega (arith, h.0), once_range (at + 1) n)
 
 -- what holds of each element of a list
-
 abbrev pub Each : {X : Type 0} → (X → Type 0) → List X → Type 0
 Each {X} P xs = (x : X) → In x xs → P x
 
@@ -75,7 +57,7 @@ pub each_map : {X Y : Type 0} (P : Y → Type 0) (f : X → Y) (xs : List X) →
 each_map P f xs each y i = let h = in_map f y xs i in subst P (sym h.2) (each h.0 h.1)
 
 pub each_kept : {X Y : Type 0} (P : Y → Type 0) (f : X → Y) (test : X → Bool) (xs : List X) → Each (λ x. P (f x)) xs → Each P (map f (list_filter test xs))
-each_kept P f test xs each = each_map P f (list_filter test xs) (λ x i. each x (in_filter test x xs i))
+each_kept P f test xs each = each_map P f (list_filter test xs) (λ x i. each x (in_filter test x xs i).0)
 
 -- each element stands once, and all have this number
 abbrev pub IsOf : {X : Type 0} → (X → ℕ) → ℕ → List X → Type 0

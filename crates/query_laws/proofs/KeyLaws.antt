@@ -1,30 +1,29 @@
 -- Two different queries of a task have different keys.
-use Rattle.std.proofs.Common.{◌≡◌, refl, sym, ap, ◌∙◌, subst, ℕ, zero, suc, ◌+◌, ◌-◌, ◌≤◌, Bool, true, false, inl, inr, List, [], ◌∷◌, ◌++◌, map, length, Option, Some, None, option_map, arith}
+use Rattle.std.proofs.Common.{◌≡◌, refl, sym, ap, ◌∙◌, subst, ℕ, ◌+◌, ◌≤◌, Bool, true, false, inl, inr, List, [], ◌∷◌, map, Some, option_map, arith}
 use Rattle.std.specs.Prelude.{slice_get}
-use Rattle.std.specs.List.{flat_map, enumerate_from}
+use Rattle.std.specs.List.{enumerate_from}
 use Rattle.std.specs.Cmp.{IsTotalOrder}
 use Rattle.std.specs.declared.cmp.Ordering.{Ordering}
 use Rattle.std.specs.declared.cmp.Ordering.TheVariants.{Less, Equal, Greater}
 use Rattle.std.specs.Ordering.{nat_cmp, ordering_then}
 use Rattle.std.specs.Cmp.Lexicographic.{slice_cmp}
 use Rattle.std.proofs.lemmas.Cmp.{on_total, then_total, nat_cmp_total, nat_list_cmp_total}
-use Rattle.std.proofs.lemmas.List.{map-append}
-use Rattle.std.proofs.lemmas.Bool.{cases_Bool, false≢true}
+use Rattle.std.proofs.lemmas.Bool.{false≢true}
 use Rattle.std.proofs.lemmas.Option.{slice_get-map}
 use Rattle.std.proofs.lemmas.Map.Lookups.{exact_unsigned, exact_bytes}
-use Rattle.value_core.specs.Value.{same_type}
-use Rattle.value_core.specs.declared.value.ColType.{ColType}
-use Rattle.predicate_core.specs.Laws.{EachOnce}
-use Rattle.predicate_core.proofs.OnceLists.{In, Once, in_same, in_append, in_map, once_append, once_map, each_once}
+use Rattle.predicate_core.proofs.OnceLists.{In, Once, in_map, each_once}
 use Rattle.table_core.specs.declared.task.TaskParts.{TaskParts}
 use Rattle.table_core.specs.Rows.{types_of}
-use Rattle.query_core.specs.Tree.{Tree, Select}
+use Rattle.query_core.specs.Tree.{Tree}
 use Rattle.query_core.specs.Meaning.{columns}
-use Rattle.query_core.specs.Grammar.{Numbered, places_of, maps, with_flags, queries_of_body, queries_of, fillings, numbered, queries, skeletons}
+use Rattle.query_core.specs.Grammar.{Numbered, maps, with_flags, queries_of_body, queries_of, fillings, numbered, queries, skeletons}
 use Rattle.query_core.specs.Rank.{Key, key, key_order, distinct_cost, pred_numbers}
 use Rattle.query_core.proofs.MapLaws.{map_twice}
 use Rattle.query_laws.specs.Laws.{key_of, KeysApart, TiesAreEqual}
-use Rattle.query_laws.proofs.FillingLaws.{in_joined, numbers_tell}
+use Rattle.query_laws.proofs.JoinedLists.{once_joined}
+use Rattle.query_laws.proofs.FillingLaws.{once_fillings}
+use Rattle.query_laws.proofs.NumberLaws.{numbers_tell}
+use Rattle.query_laws.proofs.QueryLaws.{once_maps, in_flags, in_body_queries}
 
 -- the order of keys is total
 pub key_order_total : IsTotalOrder key_order
@@ -69,21 +68,6 @@ ties_equal a b e =
     let parts : made a.unused a.cost a.skeleton a.numbers a.picks a.distinct ≡ made b.unused b.cost b.skeleton b.numbers b.picks b.distinct = cc in
     parts
 
--- what a function gives of the elements of joined lists is each given once, where it tells which list an element is of
-once_joined : {X Y Z : Type 0} (f : Y → Z) (g : X → List Y) (xs : List X) → Once xs → ((x : X) → In x xs → Once (map f (g x)))
-    → ((x y : X) → In x xs → In y xs → (a b : Y) → In a (g x) → In b (g y) → f a ≡ f b → x ≡ y) → Once (map f (flat_map g xs))
-once_joined f g [] once each tells = tt
-once_joined {X} {Y} {Z} f g (x ∷ xs) once each tells =
-    let rest : Once (map f (flat_map g xs)) = once_joined f g xs once.1 (λ y i. each y (inr i)) (λ y z i j. tells y z (inr i) (inr j)) in
-    let apart : (z : Z) → In z (map f (g x)) → In z (map f (flat_map g xs)) → ⊥ = λ z i j.
-      let a = in_map f z (g x) i in
-      let b = in_map f z (flat_map g xs) j in
-      let y = in_joined g b.0 xs b.1 in
-      let same : x ≡ y.0 = tells x y.0 (inl refl) (inr y.1) a.0 b.0 a.1 y.2 (sym a.2 ∙ b.2) in
-      once.0 (in_same x y.0 xs same y.1)
-    in
-    rw (map-append f (g x) (flat_map g xs)) (once_append (map f (g x)) (map f (flat_map g xs)) (each x (inl refl)) rest apart)
-
 -- the numbers of a list's elements don't come before its first number
 number_from : {X : Type 0} (n : ℕ) (s : X) (xs : List X) (at : ℕ) → In (n, s) (enumerate_from at xs) → at ≤ n
 number_from n s [] at i = absurd i
@@ -103,57 +87,6 @@ number_of_one {X} n s u (x ∷ xs) at (inr i) (inl f) =
     let number : ℕ × X → ℕ = λ p. p.0 in let first : n ≡ at = ap number f in let later = number_from n s xs (at + 1) i in absurd (omega (arith, first, later))
 number_of_one n s u (x ∷ xs) at (inr i) (inr j) = number_of_one n s u xs (at + 1) i j
 
--- the places of a type ascend
-first_place : (at p : ℕ) (later : List ℕ) → (In p later → at + 1 ≤ p) → In p (at ∷ later) → at ≤ p
-first_place at p later after (inl e) = omega arith
-first_place at p later after (inr i) = let h = after i in omega (arith, h)
-
-place_from : (t : ColType) (at p : ℕ) (ts : List ColType) → In p (places_of t at ts) → at ≤ p
-place_from t at p [] i = absurd i
-place_from t at p (u ∷ us) i =
-    elim (cases_Bool (same_type t u)) [
-      | inl here ↦ first_place at p (places_of t (at + 1) us) (place_from t (at + 1) p us) (rw here at i)
-      | inr not_here ↦ let after = place_from t (at + 1) p us (rw not_here at i) in omega (arith, after)
-    ]
-
-once_places : (t : ColType) (at : ℕ) (ts : List ColType) → Once (places_of t at ts)
-once_places t at [] = tt
-once_places t at (u ∷ us) =
-    elim (cases_Bool (same_type t u)) [
-      | inl here ↦ rw here (λ i. let after = place_from t (at + 1) at us i in omega (arith, after), once_places t (at + 1) us)
-      | inr not_here ↦ rw not_here (once_places t (at + 1) us)
-    ]
-
-map_itself : {X : Type 0} (xs : List X) → map (λ x. x) xs ≡ xs
-map_itself [] = refl
-map_itself (x ∷ xs) = ap (λ t. x ∷ t) (map_itself xs)
-
--- each choice of columns stands once
-once_maps : (body out : List ColType) → Once (maps body out)
-once_maps body [] = (λ i. i, tt)
-once_maps body (t ∷ ts) =
-    let whole : Once (map (λ picks. picks) (maps body (t ∷ ts))) =
-      once_joined (λ picks. picks) (λ at. map (λ rest. at ∷ rest) (maps body ts)) (places_of t 0 body) (once_places t 0 body)
-      (λ at i. rw (map_itself (map (λ rest. at ∷ rest) (maps body ts))) (once_map (λ rest. at ∷ rest) (λ a b e. tails at at a b e) (maps body ts) (once_maps body ts)))
-      (λ x y i j a b k l e. let h = in_map (λ rest. x ∷ rest) a (maps body ts) k in let g = in_map (λ rest. y ∷ rest) b (maps body ts) l in heads x y h.0 g.0 (sym h.2 ∙ e ∙ g.2))
-    in
-    rw (map_itself (maps body (t ∷ ts))) at whole
-  where
-    heads : (x y : ℕ) (a b : List ℕ) → x ∷ a ≡ y ∷ b → x ≡ y
-    heads x y a b e = cc
-
-    tails : (x y : ℕ) (a b : List ℕ) → x ∷ a ≡ y ∷ b → a ≡ b
-    tails x y a b e = cc
-
--- the queries of a body have that body, and those of a map that map
-in_flags : (q : Select) (body : Tree) (picks : List ℕ) → In q (with_flags body picks) → (q.body ≡ body) × (q.picks ≡ picks)
-in_flags q body picks (inl e) = (ap (λ x. x.body) e, ap (λ x. x.picks) e)
-in_flags q body picks (inr (inl e)) = (ap (λ x. x.body) e, ap (λ x. x.picks) e)
-in_flags q body picks (inr (inr i)) = absurd i
-
-in_body : (task : TaskParts) (q : Select) (body : Tree) → In q (queries_of_body task body) → q.body ≡ body
-in_body task q body i = let h = in_joined (with_flags body) q (maps (columns task body) (types_of task.output)) i in (in_flags q body h.0 h.2).0
-
 -- the keys of the queries with one body and map
 once_of_map : (task : TaskParts) (n : ℕ) (body : Tree) (picks : List ℕ) → Once (map (key task n) (with_flags body picks))
 once_of_map task n body picks = (λ i. elim i [ inl e ↦ let flags : false ≡ true = ap (λ k. k.distinct) e in false≢true flags | inr never ↦ never ], ((λ i. i), tt))
@@ -163,19 +96,15 @@ once_of_body : (task : TaskParts) (n : ℕ) (body : Tree) → Once (map (key tas
 once_of_body task n body =
     once_joined (key task n) (with_flags body) (maps (columns task body) (types_of task.output)) (once_maps (columns task body) (types_of task.output))
     (λ picks i. once_of_map task n body picks)
-    (λ x y i j a b k l e. let picks : a.picks ≡ b.picks = ap (λ z. z.picks) e in sym (in_flags a body x k).1 ∙ picks ∙ (in_flags b body y l).1)
-
--- each way to fill a skeleton stands once
-once_fillings : (task : TaskParts) (s : Tree) → Once (fillings task s)
-once_fillings task s = ?
+    (λ x y i j a b k l e. let picks : a.picks ≡ b.picks = ap (λ z. z.picks) e in sym (in_flags body x a k).1 ∙ picks ∙ (in_flags body y b l).1)
 
 -- the keys of the queries of one skeleton
 once_of_skeleton : (task : TaskParts) (n : ℕ) (s : Tree) → Once (map (key task n) (queries_of task s))
 once_of_skeleton task n s =
     once_joined (key task n) (queries_of_body task) (fillings task s) (once_fillings task s) (λ body i. once_of_body task n body)
     (λ x y i j a b k l e.
-      let numbers : pred_numbers task a.body ≡ pred_numbers task b.body = ap (λ z. z.numbers) e in
-      numbers_tell task s x y i j (sym (ap (pred_numbers task) (in_body task a x k)) ∙ numbers ∙ ap (pred_numbers task) (in_body task b y l)))
+    let numbers : pred_numbers task a.body ≡ pred_numbers task b.body = ap (λ z. z.numbers) e in
+    numbers_tell task s x y i j (sym (ap (pred_numbers task) (in_body_queries task x a k).0) ∙ numbers ∙ ap (pred_numbers task) (in_body_queries task y b l).0))
 
 -- the number of a numbered query
 in_numbered : (task : TaskParts) (s : ℕ × Tree) (n : Numbered) → In n (numbered task s) → n.skeleton ≡ s.0
@@ -194,8 +123,8 @@ once_keys task =
     once_joined (key_of task) (numbered task) (enumerate_from 0 (skeletons task)) (once_numbered (skeletons task) 0)
     (λ s i. rw (map_twice (key_of task) (λ q. record { skeleton = s.0; query = q }) (queries_of task s.1)) (once_of_skeleton task s.0 s.1))
     (λ s u i j a b k l e.
-      let numbers : a.skeleton ≡ b.skeleton = ap (λ z. z.skeleton) e in
-      numbered_same (skeletons task) s u i j (sym (in_numbered task s a k) ∙ numbers ∙ in_numbered task u b l))
+    let numbers : a.skeleton ≡ b.skeleton = ap (λ z. z.skeleton) e in
+    numbered_same (skeletons task) s u i j (sym (in_numbered task s a k) ∙ numbers ∙ in_numbered task u b l))
 
 -- queries at different places have different keys
 pub keys_apart : (task : TaskParts) → KeysApart task

@@ -47,7 +47,7 @@ level_before task n = let e : length (levels task n) - 1 ≡ n = omega (arith, l
 abbrev pair_with : List Tree → Tree → List (Tree × Tree)
 pair_with rights a = map (λ b. (a, b)) rights
 
-in_products : (lefts rights : List Tree) (p : Tree × Tree) → In p (products lefts rights) → In p.0 lefts × In p.1 rights
+pub in_products : (lefts rights : List Tree) (p : Tree × Tree) → In p (products lefts rights) → In p.0 lefts × In p.1 rights
 in_products lefts rights p i =
     let h = in_flat_map (pair_with rights) p lefts i in
     let k = in_map (λ b. (h.0, b)) p rights h.2 in

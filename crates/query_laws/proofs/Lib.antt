@@ -8,6 +8,7 @@ pub mod KeyLaws
 pub mod LevelLaws
 pub mod ListLaws
 pub mod MemberLaws
+pub mod NumberLaws
 pub mod QueryLaws
 pub mod RowLaws
 pub mod SkeletonLaws

@@ -6,6 +6,11 @@ use Rattle.std.proofs.lemmas.Bool.{cases_order}
 use Rattle.predicate_core.specs.Atoms.{pairs}
 use Rattle.predicate_core.proofs.OnceLists.{In, in_same, in_append, in_map}
 
+-- what is in a list of one is its element
+pub in_one : {X : Type 0} (x y : X) → In x (y ∷ []) → x ≡ y
+in_one x y (inl e) = e
+in_one x y (inr i) = absurd i
+
 -- what is in a list is in an equal one
 pub in_equal : {X : Type 0} (x : X) (xs ys : List X) → xs ≡ ys → In x xs → In x ys
 in_equal x xs ys e i = rw e at i

@@ -1,6 +1,6 @@
 -- First copies, and groups by their keys and members.
 use Rattle.std.proofs.Common.{sym}
-use Rattle.std.specs.Prelude.{ℕ, Bool, List, [], ◌∷◌}
+use Rattle.std.specs.Prelude.{ℕ, Bool, List, ◌∷◌}
 use Rattle.predicate_core.proofs.OnceLists.{each_once}
 use Rattle.table_core.specs.Rows.{Row}
 use Rattle.table_core.specs.Bag.{same_cells}

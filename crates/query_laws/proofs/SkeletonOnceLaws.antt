@@ -1,5 +1,5 @@
 -- Each skeleton stands once in the list of skeletons.
-use Rattle.std.proofs.Common.{◌≡◌, refl, sym, ap, ◌∙◌, subst, subst₂, ℕ, zero, suc, ◌+◌, ◌-◌, ◌<◌, ◌≤◌, Bool, true, false, not, ◌&&◌, ◌==◌, ◌⊎◌, inl, inr, List, [], ◌∷◌, ◌++◌, map, length, arith, length-append}
+use Rattle.std.proofs.Common.{◌≡◌, refl, sym, ap, ◌∙◌, subst, subst₂, ℕ, zero, suc, ◌+◌, ◌-◌, ◌<◌, ◌≤◌, Bool, true, false, not, ◌&&◌, ◌==◌, ◌⊎◌, inl, inr, List, [], ◌∷◌, ◌++◌, map, length, arith}
 use Rattle.std.specs.Prelude.{filter as list_filter, flat_map}
 use Rattle.std.specs.List.{range_with_len, list_any}
 use Rattle.value_core.specs.Value.{same_type}
@@ -18,7 +18,9 @@ use Rattle.query_core.specs.declared.agg.Agg.{Agg}
 use Rattle.query_core.specs.declared.agg.Agg.TheVariants.{CountAll, Count, CountDistinct, Sum, Min, Max}
 use Rattle.query_core.specs.Grammar.{takes_filter, may_meet, in_order, same_types, level_at, products, level_pairs, last_level, key_lists, free_columns, int_columns, allowed, agg_list, groups_of, next_level, bases, levels, skeletons}
 use Rattle.query_laws.specs.Skeleton.{operators}
-use Rattle.query_laws.proofs.JoinedLists.{once_one, in_one, once_filter, in_flat_map, once_flat_map, in_range, once_range, Each, each_append, each_kept, IsOf, from_of, from_both, of_map}
+use Rattle.query_laws.proofs.LevelLaws.{in_products, levels_length}
+use Rattle.query_laws.proofs.MemberLaws.{in_one, in_flat_map, in_range}
+use Rattle.query_laws.proofs.JoinedLists.{once_one, once_filter, once_flat_map, once_range, Each, each_append, each_kept, IsOf, from_of, from_both, of_map}
 
 -- an aggregate's kind, in the order of the list
 abbrev agg_kind : Agg → ℕ
@@ -124,12 +126,6 @@ in_pairs_with rights a p i =
     let h = in_map pair p rights i in
     (ap (λ q. q.0) h.2, in_same p.1 h.0 rights (ap (λ q. q.1) h.2) h.1)
 
-pub in_products : (p : Tree × Tree) (lefts rights : List Tree) → In p (products lefts rights) → In p.0 lefts × In p.1 rights
-in_products p lefts rights i =
-    let h = in_flat_map (pairs_with rights) p lefts i in
-    let g = in_pairs_with rights h.0 p h.2 in
-    (in_same p.0 h.0 lefts g.0 h.1, g.1)
-
 once_products : (lefts rights : List Tree) → Once lefts → Once rights → Once (products lefts rights)
 once_products lefts rights left right =
     once_flat_map (pairs_with rights) (λ a. once_map (λ b. (a, b)) (λ b c e. ap (λ q. q.1) e) rights right)
@@ -142,8 +138,8 @@ pairs_of ls i = products (level_at ls i) (level_at ls (length ls - 1 - i))
 pub in_level_pairs : (ls : List (List Tree)) (p : Tree × Tree) → In p (level_pairs ls) → (i : ℕ) × (i < length ls) × In p.0 (level_at ls i) × In p.1 (level_at ls (length ls - 1 - i))
 in_level_pairs ls p i =
     let h = in_flat_map (pairs_of ls) p (range_with_len 0 (length ls)) i in
-    let below = (in_range h.0 0 (length ls) h.1).1 in
-    let g = in_products p (level_at ls h.0) (level_at ls (length ls - 1 - h.0)) h.2 in
+    let below = (in_range 0 (length ls) h.0 h.1).1 in
+    let g = in_products (level_at ls h.0) (level_at ls (length ls - 1 - h.0)) p h.2 in
     (h.0, omega (arith, below), g.0, g.1)
 
 -- each tree of the level of a number has so many operators, and stands once there
@@ -154,8 +150,8 @@ once_level_pairs : (ls : List (List Tree)) → LevelsOnce ls → Once (level_pai
 once_level_pairs ls once =
     once_flat_map (pairs_of ls) (λ i. once_products (level_at ls i) (level_at ls (length ls - 1 - i)) (once i).0 (once (length ls - 1 - i)).0)
     (λ i j p a b.
-    let left = (in_products p (level_at ls i) (level_at ls (length ls - 1 - i)) a).0 in
-    let right = (in_products p (level_at ls j) (level_at ls (length ls - 1 - j)) b).0 in
+    let left = (in_products (level_at ls i) (level_at ls (length ls - 1 - i)) p a).0 in
+    let right = (in_products (level_at ls j) (level_at ls (length ls - 1 - j)) p b).0 in
     sym ((once i).1 p.0 left) ∙ (once j).1 p.0 right)
     (range_with_len 0 (length ls)) (once_range 0 (length ls))
 
@@ -255,10 +251,6 @@ level_more [] next (suc k) = inl refl
 level_more (l ∷ ls) next zero = inl refl
 level_more (l ∷ ls) next (suc k) = elim (level_more ls next k) [ inl e ↦ inl e | inr h ↦ inr (ap suc h.0, h.1) ]
 
-levels_some : (task : TaskParts) (n : ℕ) → 1 ≤ length (levels task n)
-levels_some task zero = omega arith
-levels_some task (suc n) = omega (arith, levels_some task n, length-append (levels task n) (next_level task (levels task n) ∷ []))
-
 -- what holds of no trees, of the inputs, and of a next level where it holds of the levels before, holds of all levels
 pub levels_each : (task : TaskParts) (P : ℕ → List Tree → Type 0) → ((k : ℕ) → P k []) → P 0 (bases task) → ((ls : List (List Tree)) → 1 ≤ length ls → ((k : ℕ) → P k (level_at ls k)) → P (length ls) (next_level task ls))
     → (n k : ℕ) → P k (level_at (levels task n) k)
@@ -268,7 +260,7 @@ levels_each task P none first next (suc n) k =
     let before = levels_each task P none first next n in
     elim (level_more (levels task n) (next_level task (levels task n)) k) [
       | inl e ↦ subst (λ trees. P k trees) (sym e) (before k)
-      | inr h ↦ subst₂ P (sym h.0) (sym h.1) (next (levels task n) (levels_some task n) before)
+      | inr h ↦ subst₂ P (sym h.0) (sym h.1) (next (levels task n) (omega (arith, levels_length task n)) before)
     ]
 
 levels_once : (task : TaskParts) (n : ℕ) → LevelsOnce (levels task n)

@@ -12,8 +12,8 @@ use Rattle.query_core.specs.Tree.{Tree, Select}
 use Rattle.query_core.specs.Firsts.{projected, firsts}
 use Rattle.query_core.specs.Groups.{aggregate, group_keys, members, grouped}
 use Rattle.query_core.specs.Grammar.{Numbered, level_at, levels, skeletons, queries}
-use Rattle.query_core.specs.Rank.{Key, key, key_order, before}
-use Rattle.query_core.specs.Answers.{RankedQuery, answers}
+use Rattle.query_core.specs.Rank.{Key, key, before}
+use Rattle.query_core.specs.Answers.{RankedQuery}
 use Rattle.query_core.specs.declared.agg.Agg.{Agg}
 use Rattle.query_laws.specs.Parts.{IsPart}
 use Rattle.query_laws.specs.Skeleton.{operators, is_formed, is_skeleton}
