@@ -14,7 +14,7 @@ use rank_core::{Ranked, key};
 use sqlite_items::Items;
 use std::alloc::Global;
 use table_core::TaskParts;
-use value_core::{ColType, OutOfMemory};
+use value_core::{ColType, OutOfMemory, copied};
 
 // Whether the query of this body, map and flag is an answer.
 fn is_answer(
@@ -54,7 +54,7 @@ fn ranked(
 {
     let query = Query {
         body: body.node.copy(alloc)?,
-        map: Items::from_slice(alloc, picks).map_err(|_| OutOfMemory)?,
+        map: copied(alloc, picks)?,
         distinct,
     };
     let key = key(alloc, task, skeleton, &query, body.numbers.as_slice())?;

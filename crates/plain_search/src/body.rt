@@ -10,10 +10,10 @@ use bag_eval::{append_rows, group_tuples, join_pairs, keep_rows, left_join_pairs
 use hole_choices::Choice;
 use predicate_core::Pred;
 use query_core::{Agg, Node, group_types, input_types};
-use sqlite_items::{Boxed, Items};
+use sqlite_items::Items;
 use std::alloc::Global;
 use table_core::{TaskParts, Tuple};
-use value_core::{ColType, OutOfMemory};
+use value_core::{ColType, OutOfMemory, copied, joined};
 
 /// A tree whose predicates are all filled, with its columns' types, its predicates' numbers and its rows.
 #[derive(Debug, Drop)]
@@ -24,44 +24,12 @@ pub struct Body {
     pub rows: Items<Tuple>,
 }
 
-// A copy of a node in a box.
-fn boxed(alloc: Global, node: &Node) -> Result<Boxed<Node>, OutOfMemory>
-    ensures { IfOk result (λ b. b ≡ node.now) }
-{
-    match Boxed::new(alloc, node.copy(alloc)?) {
-        Ok(node) => Ok(node),
-        Err(_) => Err(OutOfMemory),
-    }
-}
-
-// The elements of two slices.
-fn both<T: Copy + Drop>(alloc: Global, a: &[T], b: &[T]) -> Result<Items<T>, OutOfMemory>
-    ensures { IfOk result (λ out. out ≡ a.now ++ b.now) }
-{
-    let mut out = Items::from_slice(alloc, a).map_err(|_| OutOfMemory)?;
-    let more = Items::from_slice(alloc, b).map_err(|_| OutOfMemory)?;
-    match out.append(more) {
-        Ok(()) => Ok(out),
-        Err(_) => Err(OutOfMemory),
-    }
-}
-
-// A copy of these numbers.
-fn copied<T: Copy>(alloc: Global, items: &[T]) -> Result<Items<T>, OutOfMemory>
-    ensures { IfOk result (λ out. out ≡ items.now) }
-{
-    match Items::from_slice(alloc, items) {
-        Ok(out) => Ok(out),
-        Err(_) => Err(OutOfMemory),
-    }
-}
-
 // A join or a left join of copies of two nodes.
 fn paired(alloc: Global, kind: Pairing, a: &Node, b: &Node, pred: Pred) -> Result<Node, OutOfMemory>
     ensures { IfOk result (λ n. tree n ≡ paired kind (tree a.now) (tree b.now) pred) }
 {
-    let a = boxed(alloc, a)?;
-    let b = boxed(alloc, b)?;
+    let a = a.boxed(alloc)?;
+    let b = b.boxed(alloc)?;
     match kind {
         Pairing::Join => Ok(Node::Join(a, b, pred)),
         Pairing::Left => Ok(Node::Left(a, b, pred)),
@@ -91,8 +59,8 @@ fn paired_rows(
 fn united(alloc: Global, kind: Uniting, a: &Node, b: &Node) -> Result<Node, OutOfMemory>
     ensures { IfOk result (λ n. tree n ≡ united kind (tree a.now) (tree b.now)) }
 {
-    let a = boxed(alloc, a)?;
-    let b = boxed(alloc, b)?;
+    let a = a.boxed(alloc)?;
+    let b = b.boxed(alloc)?;
     match kind {
         Uniting::All => Ok(Node::UnionAll(a, b)),
         Uniting::Firsts => Ok(Node::Union(a, b)),
@@ -138,9 +106,9 @@ impl Body {
     {
         let constants = task.constants.as_slice();
         Ok(Body {
-            node: Node::Filter(boxed(alloc, &self.node)?, choice.pred),
+            node: Node::Filter(self.node.boxed(alloc)?, choice.pred),
             types: copied(alloc, self.types.as_slice())?,
-            numbers: both(alloc, self.numbers.as_slice(), &[choice.number])?,
+            numbers: joined(alloc, self.numbers.as_slice(), &[choice.number])?,
             rows: keep_rows(alloc, constants, self.rows.as_slice(), &choice.pred)?,
         })
     }
@@ -156,11 +124,11 @@ impl Body {
     ) -> Result<Body, OutOfMemory>
         ensures { IfOk result (λ b. filled b ≡ pair_filled task.now kind (filled self.now) (filled other.now) choice.now) }
     {
-        let parts = both(alloc, self.numbers.as_slice(), other.numbers.as_slice())?;
+        let parts = joined(alloc, self.numbers.as_slice(), other.numbers.as_slice())?;
         Ok(Body {
             node: paired(alloc, kind, &self.node, &other.node, choice.pred)?,
-            types: both(alloc, self.types.as_slice(), other.types.as_slice())?,
-            numbers: both(alloc, parts.as_slice(), &[choice.number])?,
+            types: joined(alloc, self.types.as_slice(), other.types.as_slice())?,
+            numbers: joined(alloc, parts.as_slice(), &[choice.number])?,
             rows: paired_rows(
                 alloc,
                 kind,
@@ -185,7 +153,7 @@ impl Body {
         let Some(rows) = group_tuples(alloc, keys, agg, self.rows.as_slice())? else {
             return Ok(None);
         };
-        let child = boxed(alloc, &self.node)?;
+        let child = self.node.boxed(alloc)?;
         let keys_copied = copied(alloc, keys)?;
         Ok(Some(Body {
             node: Node::Group(child, keys_copied, *agg),
@@ -202,7 +170,7 @@ impl Body {
         Ok(Body {
             node: united(alloc, kind, &self.node, &other.node)?,
             types: copied(alloc, self.types.as_slice())?,
-            numbers: both(alloc, self.numbers.as_slice(), other.numbers.as_slice())?,
+            numbers: joined(alloc, self.numbers.as_slice(), other.numbers.as_slice())?,
             rows: united_rows(alloc, kind, self.rows.as_slice(), other.rows.as_slice())?,
         })
     }

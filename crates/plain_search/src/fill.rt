@@ -12,7 +12,7 @@ use query_core::{Agg, Node};
 use sqlite_items::Items;
 use std::alloc::Global;
 use table_core::TaskParts;
-use value_core::{ColType, OutOfMemory};
+use value_core::{OutOfMemory, joined};
 
 /// The choices of the predicate of a filter over this body.
 pub fn child_choices(
@@ -33,18 +33,6 @@ pub fn child_choices(
     )
 }
 
-/// The types of the columns of two bodies, one after the other.
-pub fn pair_types(alloc: Global, a: &Body, b: &Body) -> Result<Items<ColType>, OutOfMemory>
-    ensures { IfOk result (λ types. types ≡ a.now.types ++ b.now.types) }
-{
-    let mut types = Items::from_slice(alloc, a.types.as_slice()).map_err(|_| OutOfMemory)?;
-    let more = Items::from_slice(alloc, b.types.as_slice()).map_err(|_| OutOfMemory)?;
-    match types.append(more) {
-        Ok(()) => Ok(types),
-        Err(_) => Err(OutOfMemory),
-    }
-}
-
 /// The choices of the predicate of a join or a left join of two bodies.
 pub fn pair_choices(
     alloc: Global,
@@ -56,7 +44,7 @@ pub fn pair_choices(
     requires few { task.now.atoms ≤ 3 }
     ensures { IfOk result (λ cs. cs ≡ pair_choices task.now (filled a.now) (filled b.now)) }
 {
-    let types = pair_types(alloc, a, b)?;
+    let types = joined(alloc, a.types.as_slice(), b.types.as_slice())?;
     let pairs = cross_rows(alloc, a.rows.as_slice(), b.rows.as_slice())?;
     choices(
         alloc,

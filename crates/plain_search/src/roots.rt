@@ -7,7 +7,7 @@ ghost use Rattle.plain_search.specs.View.{filled};
 
 use crate::answers::{output_maps, push_answers, push_body, push_some_answers};
 use crate::body::Body;
-use crate::fill::{child_choices, fill, filter_on, pair_choices, pair_types};
+use crate::fill::{child_choices, fill, filter_on, pair_choices};
 use crate::kinds::{Pairing, Uniting};
 use hole_choices::Choice;
 use query_core::{Agg, Node};
@@ -15,7 +15,7 @@ use rank_core::Ranked;
 use sqlite_items::Items;
 use std::alloc::Global;
 use table_core::TaskParts;
-use value_core::OutOfMemory;
+use value_core::{OutOfMemory, joined};
 
 // Appends the answers, with these maps, of the filters by these choices over this body.
 fn push_chosen_filters(
@@ -107,7 +107,7 @@ fn push_pair(
     requires few { task.now.atoms ≤ 3 }
     ensures { OnOk result (map ranked_query out.new.items ≡ map ranked_query out.old.items ++ flat_map (kept_on task.now skeleton) (pairs_on task.now kind (filled a.now) (filled b.now))) }
 {
-    let types = pair_types(alloc, a, b)?;
+    let types = joined(alloc, a.types.as_slice(), b.types.as_slice())?;
     let maps = output_maps(alloc, task, types.as_slice())?;
     let choices = pair_choices(alloc, task, a, b)?;
     let (choices, maps) = (choices.as_slice(), maps.as_slice());

@@ -9,7 +9,7 @@ use crate::pred::Pred;
 use sqlite_items::Items;
 use std::alloc::Global;
 use std::marker::Model;
-use value_core::OutOfMemory;
+use value_core::{OutOfMemory, copied};
 
 /// The predicates of up to so many of some atoms, in order. It keeps the atoms alone: a predicate is computed from its number.
 #[derive(Debug, Drop)]
@@ -35,10 +35,8 @@ pub fn preds(alloc: Global, atoms: &[Atom], bound: u32) -> Result<PredList, OutO
     requires { length atoms.now ≤ 100000 }
     ensures { IfOk result (λ list. list ≡ pred_list atoms.now bound) }
 {
-    match Items::from_slice(alloc, atoms) {
-        Ok(atoms) => Ok(PredList { atoms, bound }),
-        Err(_) => Err(OutOfMemory),
-    }
+    let atoms = copied(alloc, atoms)?;
+    Ok(PredList { atoms, bound })
 }
 
 // The AND of a pair.

@@ -4,7 +4,7 @@ use crate::agg::Agg;
 use predicate_core::Pred;
 use sqlite_items::{Boxed, Items};
 use std::alloc::Global;
-use value_core::OutOfMemory;
+use value_core::{OutOfMemory, copied};
 
 /// The body of a query: a tree of operators over the inputs, which are numbered from 0.
 ///
@@ -20,18 +20,18 @@ pub enum Node {
     Union(Boxed<Node>, Boxed<Node>),
 }
 
-// An equal node in a box of its own.
-#[cycle(copy)]
-fn boxed(alloc: Global, node: &Node) -> Result<Boxed<Node>, OutOfMemory>
-    ensures { IfOk result (λ b. b ≡ node.now) }
-{
-    match Boxed::new(alloc, node.copy(alloc)?) {
-        Ok(node) => Ok(node),
-        Err(_) => Err(OutOfMemory),
-    }
-}
-
 impl Node {
+    /// An equal tree in a box of its own.
+    #[cycle(copy)]
+    pub fn boxed(&self, alloc: Global) -> Result<Boxed<Node>, OutOfMemory>
+        ensures { IfOk result (λ b. b ≡ self.now) }
+    {
+        match Boxed::new(alloc, self.copy(alloc)?) {
+            Ok(node) => Ok(node),
+            Err(_) => Err(OutOfMemory),
+        }
+    }
+
     /// An equal tree.
     #[cycle(copy)]
     pub fn copy(&self, alloc: Global) -> Result<Node, OutOfMemory>
@@ -39,29 +39,27 @@ impl Node {
     {
         match self {
             Node::Base(table) => Ok(Node::Base(*table)),
-            Node::Filter(child, pred) => Ok(Node::Filter(boxed(alloc, child.get())?, *pred)),
+            Node::Filter(child, pred) => Ok(Node::Filter(child.get().boxed(alloc)?, *pred)),
             Node::Join(a, b, pred) => {
-                let a = boxed(alloc, a.get())?;
-                Ok(Node::Join(a, boxed(alloc, b.get())?, *pred))
+                let a = a.get().boxed(alloc)?;
+                Ok(Node::Join(a, b.get().boxed(alloc)?, *pred))
             }
             Node::Left(a, b, pred) => {
-                let a = boxed(alloc, a.get())?;
-                Ok(Node::Left(a, boxed(alloc, b.get())?, *pred))
+                let a = a.get().boxed(alloc)?;
+                Ok(Node::Left(a, b.get().boxed(alloc)?, *pred))
             }
             Node::Group(child, keys, agg) => {
-                let child = boxed(alloc, child.get())?;
-                match Items::from_slice(alloc, keys.as_slice()) {
-                    Ok(keys) => Ok(Node::Group(child, keys, *agg)),
-                    Err(_) => Err(OutOfMemory),
-                }
+                let child = child.get().boxed(alloc)?;
+                let keys = copied(alloc, keys.as_slice())?;
+                Ok(Node::Group(child, keys, *agg))
             }
             Node::UnionAll(a, b) => {
-                let a = boxed(alloc, a.get())?;
-                Ok(Node::UnionAll(a, boxed(alloc, b.get())?))
+                let a = a.get().boxed(alloc)?;
+                Ok(Node::UnionAll(a, b.get().boxed(alloc)?))
             }
             Node::Union(a, b) => {
-                let a = boxed(alloc, a.get())?;
-                Ok(Node::Union(a, boxed(alloc, b.get())?))
+                let a = a.get().boxed(alloc)?;
+                Ok(Node::Union(a, b.get().boxed(alloc)?))
             }
         }
     }

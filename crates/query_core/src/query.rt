@@ -3,7 +3,7 @@ ghost use Rattle.std.specs.Prelude.{◌≡◌, IfOk};
 use crate::node::Node;
 use sqlite_items::Items;
 use std::alloc::Global;
-use value_core::OutOfMemory;
+use value_core::{OutOfMemory, copied};
 
 /// A query: the rows of its body, each projected to the columns of the map, and duplicates removed where distinct.
 #[derive(Debug, Drop)]
@@ -18,14 +18,10 @@ impl Query {
     pub fn copy(&self, alloc: Global) -> Result<Query, OutOfMemory>
         ensures { IfOk result (λ q. q ≡ self.now) }
     {
-        let body = self.body.copy(alloc)?;
-        match Items::from_slice(alloc, self.map.as_slice()) {
-            Ok(map) => Ok(Query {
-                body,
-                map,
-                distinct: self.distinct,
-            }),
-            Err(_) => Err(OutOfMemory),
-        }
+        Ok(Query {
+            body: self.body.copy(alloc)?,
+            map: copied(alloc, self.map.as_slice())?,
+            distinct: self.distinct,
+        })
     }
 }

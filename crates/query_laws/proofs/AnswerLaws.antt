@@ -15,7 +15,8 @@ use Rattle.query_core.specs.Answers.{RankedQuery, ranked, comes_before, placed, 
 use Rattle.query_laws.specs.Laws.{key_of, TiesAreEqual, Ascends}
 use Rattle.query_laws.proofs.ListLaws.{at_in}
 use Rattle.query_laws.proofs.MemberLaws.{in_filter}
-use Rattle.query_laws.proofs.KeyLaws.{keys_apart, key_order_total, ties_equal}
+use Rattle.query_core.proofs.KeyLaws.{key_order_total}
+use Rattle.query_laws.proofs.KeyLaws.{keys_apart, ties_equal}
 
 -- each element of a list stands in a relation to each later one
 abbrev Pairwise : {X : Type 0} → (X → X → Type 0) → List X → Type 0

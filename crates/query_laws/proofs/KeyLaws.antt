@@ -25,16 +25,6 @@ use Rattle.query_laws.proofs.FillingLaws.{once_fillings}
 use Rattle.query_laws.proofs.NumberLaws.{numbers_tell}
 use Rattle.query_laws.proofs.QueryLaws.{once_maps, in_flags, in_body_queries}
 
--- the order of keys is total
-pub key_order_total : IsTotalOrder key_order
-key_order_total =
-    then_total (on_total (λ (k : Key). k.unused) nat_cmp_total) (
-    then_total (on_total (λ (k : Key). k.cost) nat_cmp_total) (
-    then_total (on_total (λ (k : Key). k.skeleton) nat_cmp_total) (
-    then_total (on_total (λ (k : Key). k.numbers) nat_list_cmp_total) (
-    then_total (on_total (λ (k : Key). k.picks) nat_list_cmp_total) (
-    on_total (λ (k : Key). distinct_cost k.distinct) nat_cmp_total)))))
-
 -- an order of two parts says equal only where each says it
 then_equal : (first second : Ordering) → ordering_then first second ≡ Equal → (first ≡ Equal) × (second ≡ Equal)
 then_equal Less second e = cc

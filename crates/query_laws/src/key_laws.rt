@@ -19,7 +19,7 @@ pub fn keys_are_apart(task: &TaskParts)
 {}
 
 /// The law of the order of keys: it is total, and only equal keys tie.
-#[tactic(auto, using(crate::proofs::KeyLaws::key_order_total, crate::proofs::KeyLaws::ties_equal))]
+#[tactic(auto, using(query_core::proofs::KeyLaws::key_order_total, crate::proofs::KeyLaws::ties_equal))]
 pub fn key_order_is_total()
     ensures total { IsTotalOrder key_order }
     ensures ties { TiesAreEqual key_order }

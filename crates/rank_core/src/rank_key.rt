@@ -10,7 +10,7 @@ use std::alloc::Global;
 use std::cmp::Ordering;
 use std::marker::Model;
 use table_core::TaskParts;
-use value_core::OutOfMemory;
+use value_core::{OutOfMemory, copied};
 
 /// What queries are ranked by: unused constants, cost, skeleton, predicate numbers, map and distinct.
 #[derive(Debug, Drop)]
@@ -61,14 +61,12 @@ pub fn key(
         return Err(OutOfMemory);
     };
     let unused = unused_constants(task, &query.body);
-    let numbers = Items::from_slice(alloc, numbers).map_err(|_| OutOfMemory)?;
-    let picks = Items::from_slice(alloc, query.map.as_slice()).map_err(|_| OutOfMemory)?;
     Ok(RankKey {
         unused,
         cost,
         skeleton,
-        numbers,
-        picks,
+        numbers: copied(alloc, numbers)?,
+        picks: copied(alloc, query.map.as_slice())?,
         distinct: query.distinct,
     })
 }

@@ -10,14 +10,13 @@ use query_core::Agg;
 use sqlite_items::Items;
 use std::alloc::Global;
 use table_core::AggSet;
-use value_core::{ColType, OutOfMemory};
+use value_core::{ColType, OutOfMemory, copied};
 
 // Appends a list of one key.
 fn push_key(alloc: Global, out: &mut Items<Items<usize>>, key: usize) -> Result<(), OutOfMemory>
     ensures { OnOk result (out.new ≡ out.old ++ (key ∷ []) ∷ []) }
 {
-    let keys = Items::from_slice(alloc, &[key]).map_err(|_| OutOfMemory)?;
-    out.push(keys).map_err(|_| OutOfMemory)
+    out.push(copied(alloc, &[key])?).map_err(|_| OutOfMemory)
 }
 
 // Appends the lists of single keys.
@@ -43,8 +42,8 @@ fn push_two_keys(
 ) -> Result<(), OutOfMemory>
     ensures { OnOk result (out.new ≡ out.old ++ (first ∷ second ∷ []) ∷ []) }
 {
-    let keys = Items::from_slice(alloc, &[first, second]).map_err(|_| OutOfMemory)?;
-    out.push(keys).map_err(|_| OutOfMemory)
+    out.push(copied(alloc, &[first, second])?)
+        .map_err(|_| OutOfMemory)
 }
 
 // Appends the lists of the key at a place and a later one.

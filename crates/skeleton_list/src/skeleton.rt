@@ -11,10 +11,10 @@ ghost use Rattle.skeleton_list.specs.View.{plain};
 use crate::pairing::Pairing;
 use predicate_core::Pred;
 use query_core::{Agg, Node, group_types, input_types};
-use sqlite_items::{Boxed, Items};
+use sqlite_items::Items;
 use std::alloc::Global;
 use table_core::TaskParts;
-use value_core::{ColType, OutOfMemory};
+use value_core::{ColType, OutOfMemory, copied, joined};
 
 /// A skeleton with the table numbers of its leaves and the types of its columns.
 #[derive(Debug, Drop)]
@@ -22,37 +22,6 @@ pub struct Skeleton {
     pub node: Node,
     pub leaves: Items<u32>,
     pub types: Items<ColType>,
-}
-
-// A copy of a node in a box.
-fn boxed(alloc: Global, node: &Node) -> Result<Boxed<Node>, OutOfMemory>
-    ensures { IfOk result (λ b. b ≡ node.now) }
-{
-    match Boxed::new(alloc, node.copy(alloc)?) {
-        Ok(node) => Ok(node),
-        Err(_) => Err(OutOfMemory),
-    }
-}
-
-// A copy of a slice.
-fn copied<T: Copy>(alloc: Global, items: &[T]) -> Result<Items<T>, OutOfMemory>
-    ensures { IfOk result (λ out. out ≡ items.now) }
-{
-    match Items::from_slice(alloc, items) {
-        Ok(out) => Ok(out),
-        Err(_) => Err(OutOfMemory),
-    }
-}
-
-// The elements of two slices.
-fn both<T: Copy + Drop>(alloc: Global, a: &[T], b: &[T]) -> Result<Items<T>, OutOfMemory>
-    ensures { IfOk result (λ out. out ≡ a.now ++ b.now) }
-{
-    let mut out = copied(alloc, a)?;
-    match out.append(copied(alloc, b)?) {
-        Ok(()) => Ok(out),
-        Err(_) => Err(OutOfMemory),
-    }
 }
 
 // Whether a filter may stand over a node.
@@ -81,8 +50,8 @@ fn same_types(a: &[ColType], b: &[ColType]) -> bool
 fn paired_node(alloc: Global, kind: Pairing, a: &Node, b: &Node) -> Result<Node, OutOfMemory>
     ensures { IfOk result (λ n. tree n ≡ paired_tree kind (tree a.now) (tree b.now)) }
 {
-    let a = boxed(alloc, a)?;
-    let b = boxed(alloc, b)?;
+    let a = a.boxed(alloc)?;
+    let b = b.boxed(alloc)?;
     match kind {
         Pairing::Join => Ok(Node::Join(a, b, Pred::Always)),
         Pairing::Left => Ok(Node::Left(a, b, Pred::Always)),
@@ -101,7 +70,7 @@ fn paired_types(
     ensures { IfOk result (λ types. types ≡ paired_types kind a.now b.now) }
 {
     match kind {
-        Pairing::Join | Pairing::Left => both(alloc, a, b),
+        Pairing::Join | Pairing::Left => joined(alloc, a, b),
         Pairing::UnionAll | Pairing::Union => copied(alloc, a),
     }
 }
@@ -130,7 +99,7 @@ impl Skeleton {
         ensures { IfOk result (λ s. plain s ≡ record { tree = filter (tree self.now.node) Pred.Always; leaves = self.now.leaves; types = self.now.types }) }
     {
         Ok(Skeleton {
-            node: Node::Filter(boxed(alloc, &self.node)?, Pred::Always),
+            node: Node::Filter(self.node.boxed(alloc)?, Pred::Always),
             leaves: copied(alloc, self.leaves.as_slice())?,
             types: copied(alloc, self.types.as_slice())?,
         })
@@ -205,7 +174,7 @@ impl Skeleton {
     {
         Ok(Skeleton {
             node: paired_node(alloc, kind, &self.node, &other.node)?,
-            leaves: both(alloc, self.leaves.as_slice(), other.leaves.as_slice())?,
+            leaves: joined(alloc, self.leaves.as_slice(), other.leaves.as_slice())?,
             types: paired_types(alloc, kind, self.types.as_slice(), other.types.as_slice())?,
         })
     }
@@ -214,7 +183,7 @@ impl Skeleton {
     pub fn group(&self, alloc: Global, keys: &[usize], agg: &Agg) -> Result<Skeleton, OutOfMemory>
         ensures { IfOk result (λ s. plain s ≡ group_on (plain self.now) keys.now agg.now) }
     {
-        let child = boxed(alloc, &self.node)?;
+        let child = self.node.boxed(alloc)?;
         let copied_keys = copied(alloc, keys)?;
         Ok(Skeleton {
             node: Node::Group(child, copied_keys, *agg),

@@ -1,4 +1,6 @@
-use crate::{Bytes, CmpOp, Truth, Value, Word, WordFault, compare, order, read_int, same};
+use crate::{
+    Bytes, CmpOp, Truth, Value, Word, WordFault, compare, copied, joined, order, read_int, same,
+};
 use std::alloc::Global;
 use std::test::Fail;
 
@@ -72,5 +74,13 @@ fn copies_bytes(rt: HostRuntime) -> Result<(), Fail> {
             ),
         }
     }
+    Ok(())
+}
+
+#[test]
+fn joins_items(rt: HostRuntime) -> Result<(), Fail> {
+    let alloc = rt.alloc();
+    assert_eq!(rt; copied(alloc, &[3, 1])?.as_slice(), &[3, 1]);
+    assert_eq!(rt; joined(alloc, &[3, 1], &[2])?.as_slice(), &[3, 1, 2]);
     Ok(())
 }

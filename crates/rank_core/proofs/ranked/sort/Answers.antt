@@ -4,7 +4,7 @@ use Rattle.std.proofs.lemmas.List.Sorted.{ranks_by, answers_always}
 use Rattle.query_core.specs.Answers.{comes_before}
 use Rattle.rank_core.specs.View.{ranked_query}
 use Rattle.rank_core.specs.declared.ranked.Ranked.{Ranked}
-use Rattle.rank_core.proofs.KeyLaws.{key_order_total}
+use Rattle.query_core.proofs.KeyLaws.{key_order_total}
 use Rattle.rank_core.proofs.SortLaws.{sorted_is_ascending, map_ascending}
 use Rattle.rank_core.proofs.ranked.sort.Goals as goal
 
