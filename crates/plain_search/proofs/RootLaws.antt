@@ -2,6 +2,7 @@
 use Rattle.std.proofs.Common.{◌≡◌, ℕ, Bool, true, false, ◌&&◌, ◌||◌, not, ◌==◌, List, [], ◌∷◌, ◌++◌, map, length, Option, Some, None, is_some, refl, sym, ap, ◌∙◌, if◌then◌else◌}
 use Rattle.std.specs.Prelude.{filter as list_filter}
 use Rattle.std.specs.List.{flat_map, enumerate_from}
+use Rattle.std.proofs.lemmas.Bool.{false≢true}
 use Rattle.std.proofs.lemmas.List.{map-append, append-nil}
 use Rattle.std.proofs.lemmas.List.Elements.{filter-append}
 use Rattle.value_core.specs.declared.value.ColType.{ColType}
@@ -13,36 +14,35 @@ use Rattle.query_core.specs.Meaning.{columns, rows, selected, given_rows}
 use Rattle.query_core.specs.Grammar.{Numbered, maps, with_flags, queries_of_body, queries_of, fillings, numbered, queries, skeletons}
 use Rattle.query_core.specs.Standard.{rows_or_none, is_standard_tree}
 use Rattle.query_core.specs.Answers.{RankedQuery, ranked, is_answer, found}
-use Rattle.query_core.proofs.MapLaws.{single, flat_map_twice, flat_map_same, flat_map_none, flat_map_of_map, kept_joined}
+use Rattle.query_core.proofs.MapLaws.{single, flat_map_twice, flat_map_same, flat_map_none, flat_map_of_map, flat_map_filter, kept_joined}
+use Rattle.map_choices.specs.Fitting.{fits}
+use Rattle.map_choices.proofs.FitLaws.{given_fits}
 use Rattle.hole_choices.specs.declared.choice.Choice.{Choice}
 use Rattle.plain_search.specs.declared.kinds.Pairing.{Pairing}
 use Rattle.plain_search.specs.Filled.{Filled, filter_filled, filter_on, filters_on, drops_some, child_choices, pair_filled, pairs_on, pair_choices, filled_up}
-use Rattle.plain_search.specs.Kept.{kept, kept_query, kept_map, kept_by, kept_on, kept_of, kept_of_all}
+use Rattle.plain_search.specs.Kept.{is_answer_on, kept, kept_query, kept_map, kept_on, kept_of, kept_of_all}
 use Rattle.plain_search.proofs.FilledLaws.{is_filled, filling, filled_of, filled_up_is}
 
-by_choice : (task : TaskParts) (n : ℕ) (c : Filled) (choice : Choice) (b : Bool) → drops_some task c choice ≡ b
-    → flat_map (kept_by task n (maps c.types (types_of task.output))) (filter_on task c choice) ≡ flat_map (kept_on task n) (filter_on task c choice)
-by_choice task n c choice true is = rw is refl
-by_choice task n c choice false is = rw is refl
+and_false : (a : Bool) → (a && false) ≡ false
+and_false true = refl
+and_false false = refl
 
--- the answers of the filters over a filled child, whose maps are the child's
-pub filters_kept : (task : TaskParts) (n : ℕ) (c : Filled) (ms : List (List ℕ)) (cs : List Choice) → ms ≡ maps c.types (types_of task.output) → cs ≡ child_choices task c
-    → flat_map (kept_by task n ms) (flat_map (filter_on task c) cs) ≡ flat_map (kept_on task n) (filters_on task c)
-filters_kept task n c ms cs is_maps is_choices =
-    ap (λ m. flat_map (kept_by task n m) (flat_map (filter_on task c) cs)) is_maps
-    ∙ flat_map_twice (kept_by task n (maps c.types (types_of task.output))) (filter_on task c) cs
-    ∙ flat_map_same (λ ch. flat_map (kept_by task n (maps c.types (types_of task.output))) (filter_on task c ch)) (λ ch. flat_map (kept_on task n) (filter_on task c ch)) cs (λ ch. by_choice task n c ch (drops_some task c ch) refl)
-    ∙ sym (flat_map_twice (kept_on task n) (filter_on task c) cs)
-    ∙ ap (λ xs. flat_map (kept_on task n) (flat_map (filter_on task c) xs)) is_choices
+-- a map that doesn't fit gives no answer
+not_given : (task : TaskParts) (f : Filled) (picks : List ℕ) (distinct b : Bool) → fits f.rows task.output.rows picks ≡ false → same_rows (given_rows picks distinct f.rows) task.output.rows ≡ b
+    → is_answer_on task f picks distinct ≡ false
+not_given task f picks distinct true no same = absurd (false≢true (sym no ∙ given_fits f.rows task.output.rows picks distinct same))
+not_given task f picks distinct false no same = rw (same, and_false (length picks == length task.output.columns)) (and_false (not distinct || has_double (selected picks f.rows)))
 
--- the answers of the joins or left joins of two filled parts
-pub pairs_kept : (task : TaskParts) (n : ℕ) (kind : Pairing) (a b : Filled) (ms : List (List ℕ)) (cs : List Choice) → ms ≡ maps (a.types ++ b.types) (types_of task.output) → cs ≡ pair_choices task a b
-    → flat_map (kept_by task n ms) (map (pair_filled task kind a b) cs) ≡ flat_map (kept_on task n) (pairs_on task kind a b)
-pairs_kept task n kind a b ms cs is_maps is_choices =
-    ap (λ m. flat_map (kept_by task n m) (map (pair_filled task kind a b) cs)) is_maps
-    ∙ flat_map_of_map (kept_by task n (maps (a.types ++ b.types) (types_of task.output))) (pair_filled task kind a b) cs
-    ∙ sym (flat_map_of_map (kept_on task n) (pair_filled task kind a b) cs)
-    ∙ ap (λ xs. flat_map (kept_on task n) (map (pair_filled task kind a b) xs)) is_choices
+by_fit : (task : TaskParts) (n : ℕ) (f : Filled) (picks : List ℕ) (b : Bool) → fits f.rows task.output.rows picks ≡ b → (if b then kept_map task n f picks else []) ≡ kept_map task n f picks
+by_fit task n f picks true fit = refl
+by_fit task n f picks false fit = rw (not_given task f picks false _ fit refl, not_given task f picks true _ fit refl) refl
+
+-- the answers of a filled tree are those of the maps that fit
+pub kept_fitting : (task : TaskParts) (n : ℕ) (f : Filled)
+    → flat_map (kept_map task n f) (list_filter (fits f.rows task.output.rows) (maps f.types (types_of task.output))) ≡ kept_on task n f
+kept_fitting task n f =
+    flat_map_filter (kept_map task n f) (fits f.rows task.output.rows) (maps f.types (types_of task.output))
+    ∙ flat_map_same (λ picks. if fits f.rows task.output.rows picks then kept_map task n f picks else []) (kept_map task n f) (maps f.types (types_of task.output)) (λ picks. by_fit task n f picks (fits f.rows task.output.rows picks) refl)
 
 -- a query with the number of its skeleton
 abbrev numbered_as : ℕ → Select → Numbered
@@ -89,10 +89,6 @@ none_answers : (task : TaskParts) (n : ℕ) (x : Tree) (picks : List ℕ) (disti
 none_answers task n x picks distinct o false has standard not_both = rw standard refl
 none_answers task n x picks distinct (Some found) true has standard not_both = cc
 none_answers task n x picks distinct None true has standard not_both = rw (has, standard) (and_false _)
-  where
-    and_false : (c : Bool) → (c && false) ≡ false
-    and_false true = refl
-    and_false false = refl
 
 kept_none : (task : TaskParts) (n : ℕ) (x : Tree) (o : Option (List Row)) (b : Bool) → rows task x ≡ o → is_standard_tree task x ≡ b → is_some o && b ≡ false → kept task n (queries_of_body task x) ≡ []
 kept_none task n x o b has standard not_both =

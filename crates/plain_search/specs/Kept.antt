@@ -55,7 +55,3 @@ kept_of task s = flat_map (kept_on task s.0) (filled_up task s.1)
 -- the answers of some skeletons, which are numbered from 0
 abbrev pub kept_of_all : TaskParts → List Tree → List RankedQuery
 kept_of_all task skeletons = flat_map (kept_of task) (enumerate_from 0 skeletons)
-
--- the answers of a filled tree with one of these maps
-abbrev pub kept_by : TaskParts → ℕ → List (List ℕ) → Filled → List RankedQuery
-kept_by task n picks f = flat_map (kept_map task n f) picks

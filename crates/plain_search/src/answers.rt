@@ -1,20 +1,18 @@
 ghost use Rattle.std.specs.Prelude.{◌≡◌, ◌++◌, IfOk, OnOk, map, flat_map, option_map};
-ghost use Rattle.table_core.specs.Rows.{types_of};
-ghost use Rattle.query_core.specs.Grammar.{maps};
 ghost use Rattle.rank_core.specs.View.{ranked_query};
 ghost use Rattle.plain_search.specs.Filled.{as_list};
-ghost use Rattle.plain_search.specs.Kept.{is_answer_on, ranked_on, kept_query, kept_map, kept_by, kept_on};
+ghost use Rattle.plain_search.specs.Kept.{is_answer_on, ranked_on, kept_query, kept_map, kept_on};
 ghost use Rattle.plain_search.specs.View.{filled};
 
 use crate::body::Body;
-use crate::listing::maps;
 use bag_eval::{gives_rows, has_double_selected};
-use query_core::{Query, table_types};
+use map_choices::fitting_maps;
+use query_core::Query;
 use rank_core::{Ranked, key};
 use sqlite_items::Items;
 use std::alloc::Global;
 use table_core::TaskParts;
-use value_core::{ColType, OutOfMemory, copied};
+use value_core::{OutOfMemory, copied};
 
 // Whether the query of this body, map and flag is an answer.
 fn is_answer(
@@ -96,53 +94,25 @@ fn push_map(
     push_query(alloc, task, skeleton, body, picks, true, out)
 }
 
-/// Appends the answers of this body with each of these maps.
-pub fn push_answers(
+// Appends the answers of this body with each of these maps.
+fn push_answers(
     alloc: Global,
     task: &TaskParts,
     skeleton: u32,
     body: &Body,
-    choices: &[Items<usize>],
+    maps: &[Items<usize>],
     out: &mut Vec<Ranked>,
 ) -> Result<(), OutOfMemory>
-    ensures { OnOk result (map ranked_query out.new.items ≡ map ranked_query out.old.items ++ kept_by task.now skeleton choices.now (filled body.now)) }
+    ensures { OnOk result (map ranked_query out.new.items ≡ map ranked_query out.old.items ++ flat_map (kept_map task.now skeleton (filled body.now)) maps.now) }
 {
-    for picks in choices {
+    for picks in maps {
         push_map(alloc, task, skeleton, body, picks.as_slice(), out)?;
     }
     Ok(())
 }
 
-/// Appends the answers of this body, if there is one, with each of these maps.
-pub fn push_some_answers(
-    alloc: Global,
-    task: &TaskParts,
-    skeleton: u32,
-    body: Option<Body>,
-    choices: &[Items<usize>],
-    out: &mut Vec<Ranked>,
-) -> Result<(), OutOfMemory>
-    ensures { OnOk result (map ranked_query out.new.items ≡ map ranked_query out.old.items ++ flat_map (kept_by task.now skeleton choices.now) (as_list (option_map filled body))) }
-{
-    match body {
-        Some(body) => push_answers(alloc, task, skeleton, &body, choices, out),
-        None => Ok(()),
-    }
-}
-
-/// Each choice of columns of these types for the columns of the task's output.
-pub fn output_maps(
-    alloc: Global,
-    task: &TaskParts,
-    types: &[ColType],
-) -> Result<Items<Items<usize>>, OutOfMemory>
-    ensures { IfOk result (λ ms. ms ≡ maps types.now (types_of task.now.output)) }
-{
-    let output = table_types(alloc, &task.output)?;
-    maps(alloc, types, output.as_slice())
-}
-
-/// Appends the answers of this body.
+/// Appends the answers of this body. Only the maps whose columns have the values of the output's columns are looked at.
+#[tactic(auto, using(crate::proofs::RootLaws::kept_fitting))]
 pub fn push_body(
     alloc: Global,
     task: &TaskParts,
@@ -152,6 +122,23 @@ pub fn push_body(
 ) -> Result<(), OutOfMemory>
     ensures { OnOk result (map ranked_query out.new.items ≡ map ranked_query out.old.items ++ kept_on task.now skeleton (filled body.now)) }
 {
-    let choices = output_maps(alloc, task, body.types.as_slice())?;
-    push_answers(alloc, task, skeleton, body, choices.as_slice(), out)
+    let (types, rows) = (body.types.as_slice(), body.rows.as_slice());
+    let maps = fitting_maps(alloc, types, rows, &task.output)?;
+    push_answers(alloc, task, skeleton, body, maps.as_slice(), out)
+}
+
+/// Appends the answers of this body, if there is one.
+pub fn push_some(
+    alloc: Global,
+    task: &TaskParts,
+    skeleton: u32,
+    body: Option<Body>,
+    out: &mut Vec<Ranked>,
+) -> Result<(), OutOfMemory>
+    ensures { OnOk result (map ranked_query out.new.items ≡ map ranked_query out.old.items ++ flat_map (kept_on task.now skeleton) (as_list (option_map filled body))) }
+{
+    match body {
+        Some(body) => push_body(alloc, task, skeleton, &body, out),
+        None => Ok(()),
+    }
 }

@@ -6,7 +6,6 @@ mod body;
 mod columns;
 mod fill;
 mod kinds;
-mod listing;
 mod roots;
 mod search;
 

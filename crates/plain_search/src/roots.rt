@@ -2,36 +2,34 @@ ghost use Rattle.std.specs.Prelude.{◌≡◌, ◌≤◌, ◌<◌, ◌^◌, ◌+
 ghost use Rattle.query_core.specs.View.{tree};
 ghost use Rattle.rank_core.specs.View.{ranked_query};
 ghost use Rattle.plain_search.specs.Filled.{as_list, filter_on, filters_on, pair_filled, pairs_on, groups_on, unions_on, of_each_filled};
-ghost use Rattle.plain_search.specs.Kept.{kept_by, kept_on, kept_of, kept_of_all};
+ghost use Rattle.plain_search.specs.Kept.{kept_on, kept_of, kept_of_all};
 ghost use Rattle.plain_search.specs.View.{filled};
 
-use crate::answers::{output_maps, push_answers, push_body, push_some_answers};
+use crate::answers::{push_body, push_some};
 use crate::body::Body;
 use crate::fill::{child_choices, fill, filter_on, pair_choices};
 use crate::kinds::{Pairing, Uniting};
 use hole_choices::Choice;
 use query_core::{Agg, Node};
 use rank_core::Ranked;
-use sqlite_items::Items;
 use std::alloc::Global;
 use table_core::TaskParts;
-use value_core::{OutOfMemory, joined};
+use value_core::OutOfMemory;
 
-// Appends the answers, with these maps, of the filters by these choices over this body.
+// Appends the answers of the filters by these choices over this body.
 fn push_chosen_filters(
     alloc: Global,
     task: &TaskParts,
     skeleton: u32,
     child: &Body,
     choices: &[Choice],
-    maps: &[Items<usize>],
     out: &mut Vec<Ranked>,
 ) -> Result<(), OutOfMemory>
-    ensures { OnOk result (map ranked_query out.new.items ≡ map ranked_query out.old.items ++ flat_map (kept_by task.now skeleton maps.now) (flat_map (filter_on task.now (filled child.now)) choices.now)) }
+    ensures { OnOk result (map ranked_query out.new.items ≡ map ranked_query out.old.items ++ flat_map (kept_on task.now skeleton) (flat_map (filter_on task.now (filled child.now)) choices.now)) }
 {
     for choice in choices {
         let body = filter_on(alloc, task, child, choice)?;
-        push_some_answers(alloc, task, skeleton, body, maps, out)?;
+        push_some(alloc, task, skeleton, body, out)?;
     }
     Ok(())
 }
@@ -48,10 +46,8 @@ fn push_filters(
     requires few { task.now.atoms ≤ 3 }
     ensures { OnOk result (map ranked_query out.new.items ≡ map ranked_query out.old.items ++ flat_map (kept_on task.now skeleton) (filters_on task.now (filled child.now))) }
 {
-    let maps = output_maps(alloc, task, child.types.as_slice())?;
     let choices = child_choices(alloc, task, child)?;
-    let (choices, maps) = (choices.as_slice(), maps.as_slice());
-    push_chosen_filters(alloc, task, skeleton, child, choices, maps, out)
+    push_chosen_filters(alloc, task, skeleton, child, choices.as_slice(), out)
 }
 
 // Appends the answers of the standard filters over these bodies.
@@ -72,7 +68,7 @@ fn push_all_filters(
     Ok(())
 }
 
-// Appends the answers, with these maps, of the joins or left joins of two bodies by these choices.
+// Appends the answers of the joins or left joins of two bodies by these choices.
 fn push_chosen_pairs(
     alloc: Global,
     task: &TaskParts,
@@ -81,14 +77,13 @@ fn push_chosen_pairs(
     a: &Body,
     b: &Body,
     choices: &[Choice],
-    maps: &[Items<usize>],
     out: &mut Vec<Ranked>,
 ) -> Result<(), OutOfMemory>
-    ensures { OnOk result (map ranked_query out.new.items ≡ map ranked_query out.old.items ++ flat_map (kept_by task.now skeleton maps.now) (map (pair_filled task.now kind (filled a.now) (filled b.now)) choices.now)) }
+    ensures { OnOk result (map ranked_query out.new.items ≡ map ranked_query out.old.items ++ flat_map (kept_on task.now skeleton) (map (pair_filled task.now kind (filled a.now) (filled b.now)) choices.now)) }
 {
     for choice in choices {
         let body = a.pair(alloc, task, kind, b, choice)?;
-        push_answers(alloc, task, skeleton, &body, maps, out)?;
+        push_body(alloc, task, skeleton, &body, out)?;
     }
     Ok(())
 }
@@ -107,11 +102,8 @@ fn push_pair(
     requires few { task.now.atoms ≤ 3 }
     ensures { OnOk result (map ranked_query out.new.items ≡ map ranked_query out.old.items ++ flat_map (kept_on task.now skeleton) (pairs_on task.now kind (filled a.now) (filled b.now))) }
 {
-    let types = joined(alloc, a.types.as_slice(), b.types.as_slice())?;
-    let maps = output_maps(alloc, task, types.as_slice())?;
     let choices = pair_choices(alloc, task, a, b)?;
-    let (choices, maps) = (choices.as_slice(), maps.as_slice());
-    push_chosen_pairs(alloc, task, skeleton, kind, a, b, choices, maps, out)
+    push_chosen_pairs(alloc, task, skeleton, kind, a, b, choices.as_slice(), out)
 }
 
 // Appends the answers of those of a body with each of these.
@@ -152,22 +144,6 @@ fn push_pairs(
         push_pairs_with(alloc, task, skeleton, kind, a, rights, out)?;
     }
     Ok(())
-}
-
-// Appends the answers of a body, if there is one.
-fn push_some(
-    alloc: Global,
-    task: &TaskParts,
-    skeleton: u32,
-    body: Option<Body>,
-    out: &mut Vec<Ranked>,
-) -> Result<(), OutOfMemory>
-    ensures { OnOk result (map ranked_query out.new.items ≡ map ranked_query out.old.items ++ flat_map (kept_on task.now skeleton) (as_list (option_map filled body))) }
-{
-    match body {
-        Some(body) => push_body(alloc, task, skeleton, &body, out),
-        None => Ok(()),
-    }
 }
 
 // Appends the answers of the groups over these bodies.

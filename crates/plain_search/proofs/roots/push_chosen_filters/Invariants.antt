@@ -3,11 +3,11 @@ use Rattle.std.specs.List.{flat_map, enumerate_from}
 use Rattle.query_core.specs.View.{tree}
 use Rattle.rank_core.specs.View.{ranked_query}
 use Rattle.plain_search.specs.Filled.{filter_on, filters_on, pair_filled, pairs_on, groups_on, unions_on, of_each_filled}
-use Rattle.plain_search.specs.Kept.{kept_by, kept_on, kept_of, kept_of_all}
+use Rattle.plain_search.specs.Kept.{kept_on, kept_of, kept_of_all}
 use Rattle.plain_search.specs.View.{filled}
 use Rattle.plain_search.proofs.roots.push_chosen_filters.Given as goal
 
 abbrev pub invariant-loop-choice : goal.invariant-loop-choice
 invariant-loop-choice l =
-    map ranked_query l.out.items ++ flat_map (kept_by l.task l.skeleton l.maps) (flat_map (filter_on l.task (filled l.child)) (drop l.choice-index l.choices))
-    ≡ map ranked_query l.initial.out.items ++ flat_map (kept_by l.task l.skeleton l.maps) (flat_map (filter_on l.task (filled l.child)) l.choices)
+    map ranked_query l.out.items ++ flat_map (kept_on l.task l.skeleton) (flat_map (filter_on l.task (filled l.child)) (drop l.choice-index l.choices))
+    ≡ map ranked_query l.initial.out.items ++ flat_map (kept_on l.task l.skeleton) (flat_map (filter_on l.task (filled l.child)) l.choices)
