@@ -46,6 +46,7 @@ in_back : {X : Type 0} (x : X) (xs ys : List X) → In x ys → In x (xs ++ ys)
 in_back x [] ys i = i
 in_back x (z ∷ xs) ys i = inr (in_back x xs ys i)
 
+-- what a function gives of an element is an element of the mapped list
 map_in : {X Y : Type 0} (f : X → Y) (x : X) (xs : List X) → In x xs → In (f x) (map f xs)
 map_in f x [] i = absurd i
 map_in f x (z ∷ xs) (inl e) = inl (ap f e)
@@ -140,17 +141,18 @@ Answered rows output picks place =
     ((row : Row) → In row rows → (other : Row) × In other output × Agrees row picks other place)
     × ((other : Row) → In other output → (row : Row) × In row rows × Agrees row picks other place)
 
-values_same : (a b : Row) (at place : ℕ) → value_at a at ≡ value_at b place → same (value_at a at) (value_at b place) ≡ true
-values_same a b at place e = (same_decides (value_at a at) (value_at b place)).1 e
+-- where each row has the value of some other row, all stand in those
+stand_all : (rows others : List Row) (at place : ℕ) → ((row : Row) → In row rows → (other : Row) × In other others × (value_at row at ≡ value_at other place))
+    → list_all (λ row. stands_in others place row at) rows ≡ true
+stand_all rows others at place each =
+    all_of _ rows (λ row i. let h = each row i in any_of _ h.0 others h.1 ((same_decides (value_at row at) (value_at h.0 place)).1 h.2))
 
 -- columns that agree serve
 answered_fits : (rows output : List Row) (picks : List ℕ) (place : ℕ) → Answered rows output picks place → fits_from rows output place picks ≡ true
 answered_fits rows output [] place answered = refl
 answered_fits rows output (at ∷ picks) place answered =
-    let forth : list_all (λ row. stands_in output place row at) rows ≡ true = all_of _ rows (λ row i.
-    let h = answered.0 row i in any_of _ h.0 output h.1 (values_same row h.0 at place h.2.0)) in
-    let back : list_all (λ other. stands_in rows at other place) output ≡ true = all_of _ output (λ other i.
-    let h = answered.1 other i in any_of _ h.0 rows h.1 (values_same other h.0 place at (sym h.2.0))) in
+    let forth = stand_all rows output at place (λ row i. let h = answered.0 row i in (h.0, h.1, h.2.0)) in
+    let back = stand_all output rows place at (λ other i. let h = answered.1 other i in (h.0, h.1, sym h.2.0)) in
     rw (forth, back) (answered_fits rows output picks (place + 1) (
       λ row i. let h = answered.0 row i in (h.0, h.1, h.2.1),
       λ other i. let h = answered.1 other i in (h.0, h.1, h.2.1),

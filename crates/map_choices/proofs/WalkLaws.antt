@@ -43,8 +43,7 @@ pub fits_split : (rows output : List Row) (place : ℕ) (types left : List ColTy
     → filter (fits_from rows output place) (maps types left)
     ≡ flat_map (λ at. map (λ rest. at ∷ rest) (filter (fits_from rows output (place + 1)) (maps types (take (length left - 1) (drop 1 left))))) (filter (serves rows output place) (places_of (get_or left 0 Int) 0 types))
 fits_split rows output place types [] some = absurd (omega (arith, some))
-fits_split rows output place types (t ∷ ts) some =
-    rw (take_rest (t ∷ ts) 1) (fits_next rows output place types t ts)
+fits_split rows output place types (t ∷ ts) some = rw (take_rest (t ∷ ts) 1) (fits_next rows output place types t ts)
 
 -- where no place serves the first output column, no map fits
 pub fits_none : (rows output : List Row) (place : ℕ) (types left : List ColType) → 1 ≤ length left

@@ -38,10 +38,11 @@ by_fit task n f picks true fit = refl
 by_fit task n f picks false fit = rw (not_given task f picks false _ fit refl, not_given task f picks true _ fit refl) refl
 
 -- the answers of a filled tree are those of the maps that fit
-pub kept_fitting : (task : TaskParts) (n : ℕ) (f : Filled)
-    → flat_map (kept_map task n f) (list_filter (fits f.rows task.output.rows) (maps f.types (types_of task.output))) ≡ kept_on task n f
-kept_fitting task n f =
-    flat_map_filter (kept_map task n f) (fits f.rows task.output.rows) (maps f.types (types_of task.output))
+pub kept_fitting : (task : TaskParts) (n : ℕ) (f : Filled) (fitting : List (List ℕ)) → fitting ≡ list_filter (fits f.rows task.output.rows) (maps f.types (types_of task.output))
+    → flat_map (kept_map task n f) fitting ≡ kept_on task n f
+kept_fitting task n f fitting is =
+    ap (flat_map (kept_map task n f)) is
+    ∙ flat_map_filter (kept_map task n f) (fits f.rows task.output.rows) (maps f.types (types_of task.output))
     ∙ flat_map_same (λ picks. if fits f.rows task.output.rows picks then kept_map task n f picks else []) (kept_map task n f) (maps f.types (types_of task.output)) (λ picks. by_fit task n f picks (fits f.rows task.output.rows picks) refl)
 
 -- a query with the number of its skeleton
