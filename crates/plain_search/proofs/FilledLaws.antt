@@ -1,7 +1,7 @@
 -- What is filled from the inside out is what is standard and has rows among all ways to fill.
-use Rattle.std.proofs.Common.{◌≡◌, ℕ, Bool, true, false, not, ◌&&◌, List, [], ◌∷◌, ◌++◌, map, length, drop, Option, Some, None, is_some, refl, sym, ap, ◌∙◌, if◌then◌else◌}
+use Rattle.std.proofs.Common.{◌≡◌, ℕ, Bool, true, false, not, ◌&&◌, List, [], ◌∷◌, ◌++◌, map, length, Option, Some, None, is_some, refl, sym, ap, ◌∙◌, if◌then◌else◌}
 use Rattle.std.specs.Prelude.{filter as list_filter}
-use Rattle.std.specs.List.{flat_map, list_all}
+use Rattle.std.specs.List.{flat_map}
 use Rattle.std.proofs.lemmas.List.{append-nil}
 use Rattle.value_core.specs.declared.value.Value.{Value}
 use Rattle.predicate_core.specs.declared.pred.Pred.{Pred}
@@ -13,18 +13,16 @@ use Rattle.query_core.specs.declared.agg.Agg.{Agg}
 use Rattle.query_core.specs.Tree.{Tree}
 use Rattle.query_core.specs.Tree as t
 use Rattle.query_core.specs.Groups.{grouped}
-use Rattle.query_core.specs.Joins.{crossed}
 use Rattle.query_core.specs.Meaning.{columns, rows, of_both}
-use Rattle.query_core.specs.Grammar.{predicates, filter_predicates, fillings, filters_filled, joins_filled, lefts_filled}
-use Rattle.query_core.specs.Standard.{rows_or_none, is_standard_tree, is_standard_filter, is_standard_pair, is_first, is_first_alike, keeps_all}
+use Rattle.query_core.specs.Grammar.{predicates, filter_predicates, fillings, filters_filled}
+use Rattle.query_core.specs.Standard.{rows_or_none, is_standard_tree, is_standard_filter, is_standard_pair, is_first, keeps_all}
 use Rattle.query_core.specs.Rank.{pred_numbers, pred_number}
-use Rattle.hole_choices.specs.Choices.{choice, choices_of}
-use Rattle.hole_choices.specs.declared.choice.Choice.{Choice}
+use Rattle.hole_choices.specs.Choices.{choice}
 use Rattle.plain_search.specs.declared.kinds.Pairing.{Pairing}
 use Rattle.plain_search.specs.declared.kinds.Pairing.TheVariants.{Join, Left}
 use Rattle.plain_search.specs.declared.kinds.Uniting.{Uniting}
 use Rattle.plain_search.specs.declared.kinds.Uniting.TheVariants.{All, Firsts}
-use Rattle.plain_search.specs.Filled.{Filled, filter_filled, filter_on, filters_on, drops_some, pair_filled, pairs_on, paired, paired_rows, groups_on, unions_on, united, united_rows, filled_up}
+use Rattle.plain_search.specs.Filled.{Filled, filter_filled, filter_on, filters_on, pair_filled, pairs_on, paired, paired_rows, groups_on, unions_on, united, united_rows, filled_up}
 use Rattle.query_core.proofs.MapLaws.{single, flat_map_twice, flat_map_same, flat_map_none, flat_map_of_map, flat_map_filter, flat_map_singles, map_twice, of_each_filled_is}
 
 -- whether a tree is standard and has rows

@@ -5,23 +5,20 @@ use Rattle.std.specs.List.{flat_map, enumerate_from}
 use Rattle.std.proofs.lemmas.Bool.{false≢true}
 use Rattle.std.proofs.lemmas.List.{map-append, append-nil}
 use Rattle.std.proofs.lemmas.List.Elements.{filter-append}
-use Rattle.value_core.specs.declared.value.ColType.{ColType}
 use Rattle.table_core.specs.Rows.{Row, types_of}
 use Rattle.table_core.specs.Bag.{same_rows, has_double}
 use Rattle.table_core.specs.declared.task.TaskParts.{TaskParts}
 use Rattle.query_core.specs.Tree.{Tree, Select}
 use Rattle.query_core.specs.Meaning.{columns, rows, selected, given_rows}
-use Rattle.query_core.specs.Grammar.{Numbered, maps, with_flags, queries_of_body, queries_of, fillings, numbered, queries, skeletons}
+use Rattle.query_core.specs.Grammar.{Numbered, maps, with_flags, queries_of_body, queries_of, fillings, numbered, skeletons}
 use Rattle.query_core.specs.Standard.{rows_or_none, is_standard_tree}
-use Rattle.query_core.specs.Answers.{RankedQuery, ranked, is_answer, found}
-use Rattle.query_core.proofs.MapLaws.{single, flat_map_twice, flat_map_same, flat_map_none, flat_map_of_map, flat_map_filter, kept_joined}
+use Rattle.query_core.specs.Answers.{ranked, is_answer, found}
+use Rattle.query_core.proofs.MapLaws.{flat_map_twice, flat_map_same, flat_map_none, flat_map_filter, kept_joined}
 use Rattle.map_choices.specs.Fitting.{fits}
 use Rattle.map_choices.proofs.FitLaws.{given_fits}
-use Rattle.hole_choices.specs.declared.choice.Choice.{Choice}
-use Rattle.plain_search.specs.declared.kinds.Pairing.{Pairing}
-use Rattle.plain_search.specs.Filled.{Filled, filter_filled, filter_on, filters_on, drops_some, child_choices, pair_filled, pairs_on, pair_choices, filled_up}
+use Rattle.plain_search.specs.Filled.{Filled}
 use Rattle.plain_search.specs.Kept.{is_answer_on, kept, kept_query, kept_map, kept_on, kept_of, kept_of_all}
-use Rattle.plain_search.proofs.FilledLaws.{is_filled, filling, filled_of, filled_up_is}
+use Rattle.plain_search.proofs.FilledLaws.{filling, filled_of, filled_up_is}
 
 and_false : (a : Bool) → (a && false) ≡ false
 and_false true = refl
@@ -30,8 +27,8 @@ and_false false = refl
 -- a map that doesn't fit gives no answer
 not_given : (task : TaskParts) (f : Filled) (picks : List ℕ) (distinct b : Bool) → fits f.rows task.output.rows picks ≡ false → same_rows (given_rows picks distinct f.rows) task.output.rows ≡ b
     → is_answer_on task f picks distinct ≡ false
-not_given task f picks distinct true no same = absurd (false≢true (sym no ∙ given_fits f.rows task.output.rows picks distinct same))
-not_given task f picks distinct false no same = rw (same, and_false (length picks == length task.output.columns)) (and_false (not distinct || has_double (selected picks f.rows)))
+not_given task f picks distinct true unfit same = absurd (false≢true (sym unfit ∙ given_fits f.rows task.output.rows picks distinct same))
+not_given task f picks distinct false unfit same = rw (same, and_false (length picks == length task.output.columns)) (and_false (not distinct || has_double (selected picks f.rows)))
 
 by_fit : (task : TaskParts) (n : ℕ) (f : Filled) (picks : List ℕ) (b : Bool) → fits f.rows task.output.rows picks ≡ b → (if b then kept_map task n f picks else []) ≡ kept_map task n f picks
 by_fit task n f picks true fit = refl

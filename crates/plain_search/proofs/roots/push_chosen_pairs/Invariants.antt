@@ -1,9 +1,8 @@
 use Rattle.std.proofs.Common.{◌≡◌, ◌++◌, map, drop}
-use Rattle.std.specs.List.{flat_map, enumerate_from}
-use Rattle.query_core.specs.View.{tree}
+use Rattle.std.specs.List.{flat_map}
 use Rattle.rank_core.specs.View.{ranked_query}
-use Rattle.plain_search.specs.Filled.{filter_on, filters_on, pair_filled, pairs_on, groups_on, unions_on, of_each_filled}
-use Rattle.plain_search.specs.Kept.{kept_on, kept_of, kept_of_all}
+use Rattle.plain_search.specs.Filled.{pair_filled}
+use Rattle.plain_search.specs.Kept.{kept_on}
 use Rattle.plain_search.specs.View.{filled}
 use Rattle.plain_search.proofs.roots.push_chosen_pairs.Given as goal
 
