@@ -14,7 +14,7 @@ pub use equal::{atom_count, has_constant, same_pred};
 pub use laws::{
     atoms_are_once, keeps_is_by_atoms, numbers_are_places, preds_are_once, same_pred_is_equality,
 };
-pub use listing::{atoms, single_preds};
+pub use listing::atoms;
 pub use numbers::{pair_count, triple_count};
 pub use pred::{Pred, keeps, truth};
 pub use pred_list::{PredList, preds};

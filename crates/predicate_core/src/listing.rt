@@ -1,11 +1,9 @@
 ghost use Rattle.std.specs.Prelude.{◌≡◌, ◌∷◌, ◌++◌, ◌+◌, ◌<◌, ◌≤◌, length, drop, if◌then◌else◌, IfOk, OnOk, [], map};
-ghost use Rattle.predicate_core.specs.Atoms.{comparisons, column_with_columns, columns_compared, column_with_constants, constants_compared, null_tests, atom_list, pred_list};
+ghost use Rattle.predicate_core.specs.Atoms.{comparisons, column_with_columns, columns_compared, column_with_constants, constants_compared, null_tests, atom_list};
 ghost use Rattle.value_core.specs.Value.{same_type, is_of_type};
 ghost use Rattle.predicate_core.specs.declared.atom.Atom.TheVariants.{Cols, Const, IsNull, NotNull};
-ghost use Rattle.predicate_core.specs.declared.pred.Pred.TheVariants.{One};
 
 use crate::atom::Atom;
-use crate::pred::Pred;
 use sqlite_items::Items;
 use std::alloc::{AllocError, Global};
 use value_core::{CmpOp, ColType, OutOfMemory, Value};
@@ -165,28 +163,6 @@ pub fn atoms(
     let mut atoms = Items::new(alloc);
     match push_atoms(&mut atoms, types, constants) {
         Ok(()) => Ok(atoms),
-        Err(_) => Err(OutOfMemory),
-    }
-}
-
-// Appends each atom as a predicate of its own.
-fn push_singles(preds: &mut Items<Pred>, atoms: &[Atom]) -> Result<(), AllocError>
-    ensures { OnOk result (preds.new ≡ preds.old ++ map One atoms.now) }
-{
-    for atom in atoms {
-        preds.push(Pred::One(*atom))?;
-    }
-    Ok(())
-}
-
-/// The predicates of at most one atom, in order: Always, then the single atoms.
-pub fn single_preds(alloc: Global, atoms: &[Atom]) -> Result<Items<Pred>, OutOfMemory>
-    ensures { IfOk result (λ preds. preds ≡ pred_list atoms.now 1) }
-{
-    let mut preds = Items::new(alloc);
-    preds.push(Pred::Always).map_err(|_| OutOfMemory)?;
-    match push_singles(&mut preds, atoms) {
-        Ok(()) => Ok(preds),
         Err(_) => Err(OutOfMemory),
     }
 }
