@@ -80,7 +80,10 @@ fn copies_bytes(rt: HostRuntime) -> Result<(), Fail> {
 #[test]
 fn joins_items(rt: HostRuntime) -> Result<(), Fail> {
     let alloc = rt.alloc();
-    assert_eq!(rt; copied(alloc, &[3, 1])?.as_slice(), &[3, 1]);
-    assert_eq!(rt; joined(alloc, &[3, 1], &[2])?.as_slice(), &[3, 1, 2]);
+    assert_eq!(rt; copied(alloc, &[3, 1])?.as_slice(), [3, 1].as_slice());
+    assert_eq!(rt;
+        joined(alloc, &[3, 1], &[2])?.as_slice(),
+        [3, 1, 2].as_slice()
+    );
     Ok(())
 }
