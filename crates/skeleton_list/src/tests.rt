@@ -6,30 +6,38 @@ use std::test::Fail;
 use table_core::{AggSet, Column, Table, TaskParts};
 use value_core::{ColType, Word};
 
-// A task of so many tables, each of a text and a number.
-fn task(
-    alloc: Global,
-    names: &[&str],
-    ops: u32,
-    leaves: u32,
-    aggregates: AggSet,
-) -> Result<TaskParts, Fail> {
+fn column(alloc: Global, name: &str, kind: ColType) -> Result<Column, Fail> {
+    let name = Word::of(alloc, name.as_bytes())?;
+    Ok(Column { name, kind })
+}
+
+// A table of a text and a number.
+fn table(alloc: Global, name: &str) -> Result<Table, Fail> {
+    let mut columns = Vec::new(alloc);
+    columns.push(column(alloc, "k", ColType::Text)?)?;
+    columns.push(column(alloc, "n", ColType::Int)?)?;
+    Ok(Table::new(alloc, Word::of(alloc, name.as_bytes())?, columns))
+}
+
+fn inputs(alloc: Global, names: &str) -> Result<Items<Table>, Fail> {
     let mut inputs = Items::new(alloc);
-    for name in names {
-        let mut columns = Vec::new(alloc);
-        for (name, kind) in [("k", ColType::Text), ("n", ColType::Int)] {
-            let name = Word::of(alloc, name.as_bytes())?;
-            columns.push(Column { name, kind })?;
-        }
-        inputs.push(Table::new(alloc, Word::of(alloc, name.as_bytes())?, columns))?;
+    for name in names.split_whitespace() {
+        inputs.push(table(alloc, name)?)?;
     }
+    Ok(inputs)
+}
+
+// The names of tables, bounds on operators and leaves, aggregates, and the kinds of the skeletons in order.
+type Case = (&'static str, u32, u32, AggSet, &'static [u8]);
+
+fn task(alloc: Global, case: &Case) -> Result<TaskParts, Fail> {
     Ok(TaskParts {
-        inputs,
+        inputs: inputs(alloc, case.0)?,
         output: Table::new(alloc, Word::of(alloc, b"out")?, Vec::new(alloc)),
         constants: Items::new(alloc),
-        aggregates,
-        ops,
-        leaves,
+        aggregates: case.3,
+        ops: case.1,
+        leaves: case.2,
         atoms: 1,
         show: 1,
         budget: 1,
@@ -51,34 +59,46 @@ fn letter(node: &Node) -> u8 {
     }
 }
 
+// The kinds of a task's skeletons, where there are at most so many.
+fn kinds(alloc: Global, task: &TaskParts, most: usize) -> Result<Option<Vec<u8>>, Fail> {
+    match skeletons(alloc, task, most)? {
+        Some(nodes) => Ok(Some(nodes.as_slice().iter().map(letter).collect(alloc)?)),
+        None => Ok(None),
+    }
+}
+
+// Whether a task has these skeletons, and isn't told where one fewer is allowed.
+fn lists_so(alloc: Global, case: &Case) -> Result<bool, Fail> {
+    let task = task(alloc, case)?;
+    let most = case.4.len();
+    let fewer = most.checked_sub(1).ok_or("no skeletons")?;
+    let told = kinds(alloc, &task, fewer)?.is_some();
+    match kinds(alloc, &task, most)? {
+        Some(kinds) => Ok(kinds.as_slice() == case.4 && !told),
+        None => Ok(false),
+    }
+}
+
+const SOME: AggSet = AggSet {
+    count_all: true,
+    sum: true,
+    ..AggSet::NONE
+};
+
+const CASES: &[Case] = &[
+    ("t", 0, 1, AggSet::NONE, b"B"),
+    ("t", 1, 1, AggSet::NONE, b"BF"),
+    ("t", 1, 2, AggSet::NONE, b"BFJLAU"),
+    ("t u", 1, 2, AggSet::NONE, b"BBFFJJJLLLLAAAUUU"),
+    ("t", 2, 1, AggSet::NONE, b"BF"),
+    // Keys: none, each column, both; the sum over the number where it is no key.
+    ("t", 1, 1, SOME, b"BF*S*S**"),
+];
+
 #[test]
 fn lists_skeletons(rt: HostRuntime) -> Result<(), Fail> {
-    let alloc = rt.alloc();
-    let some = AggSet {
-        count_all: true,
-        sum: true,
-        ..AggSet::NONE
-    };
-    // Tables, bounds on operators and leaves, aggregates, and the kinds in order.
-    let cases: [(&[&str], u32, u32, AggSet, &[u8]); 6] = [
-        (&["t"], 0, 1, AggSet::NONE, b"B"),
-        (&["t"], 1, 1, AggSet::NONE, b"BF"),
-        (&["t"], 1, 2, AggSet::NONE, b"BFJLAU"),
-        (&["t", "u"], 1, 2, AggSet::NONE, b"BBFFJJJLLLLAAAUUU"),
-        (&["t"], 2, 1, AggSet::NONE, b"BF"),
-        // Keys: none, each column, both; the sum over the number where it is no key.
-        (&["t"], 1, 1, some, b"BF*S*S**"),
-    ];
-    for (names, ops, leaves, aggregates, wanted) in cases {
-        let task = task(alloc, names, ops, leaves, aggregates)?;
-        let mut found = Vec::new(alloc);
-        if let Some(nodes) = skeletons(alloc, &task, wanted.len())? {
-            for node in nodes.as_slice() {
-                found.push(letter(node))?;
-            }
-        }
-        assert_eq!(rt; found.as_slice(), wanted);
-        assert!(rt; skeletons(alloc, &task, wanted.len() - 1)?.is_none());
+    for case in CASES {
+        assert!(rt; lists_so(rt.alloc(), case)?, "{case:?}");
     }
     Ok(())
 }
