@@ -1,6 +1,6 @@
 ghost use Rattle.std.specs.Prelude.{◌≡◌, ◌∷◌, ◌++◌, [], IfOk, OnOk, filter};
 ghost use Rattle.predicate_core.specs.Truth.{keeps};
-ghost use Rattle.query_core.specs.Standard.{same_bool, alike, keeps_all};
+ghost use Rattle.query_core.specs.Standard.{keeps_all};
 
 use predicate_core::{Pred, keeps};
 use sqlite_items::Items;
@@ -46,21 +46,4 @@ pub fn keeps_all_rows(constants: &[Value], rows: &[Tuple], pred: &Pred) -> bool
     ensures { result ≡ keeps_all constants.now rows.now pred.now }
 {
     rows.iter().all(|row| keeps(pred, row.cells(), constants))
-}
-
-// Whether two predicates say the same of a row.
-fn keeps_same(constants: &[Value], row: &[Value], p: &Pred, q: &Pred) -> bool
-    ensures { result ≡ same_bool (keeps constants.now p.now row.now) (keeps constants.now q.now row.now) }
-{
-    let by_p = keeps(p, row, constants);
-    let by_q = keeps(q, row, constants);
-    if by_p { by_q } else { !by_q }
-}
-
-/// Whether two predicates keep the same of some rows.
-pub fn keeps_same_rows(constants: &[Value], rows: &[Tuple], p: &Pred, q: &Pred) -> bool
-    ensures { result ≡ alike constants.now rows.now p.now q.now }
-{
-    rows.iter()
-        .all(|row| keeps_same(constants, row.cells(), p, q))
 }

@@ -15,7 +15,7 @@ mod union;
 mod values;
 
 pub use eval::Eval;
-pub use filter::{keep_rows, keeps_all_rows, keeps_same_rows};
+pub use filter::{keep_rows, keeps_all_rows};
 pub use group::group_tuples;
 pub use join::{cross_rows, join_pairs, left_join_pairs};
 pub use output::gives_rows;

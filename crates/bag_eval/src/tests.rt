@@ -1,6 +1,6 @@
 use crate::{
     append_rows, cross_rows, first_rows, gives_rows, group_tuples, has_double_selected, join_pairs,
-    keep_rows, keeps_all_rows, keeps_same_rows, left_join_pairs, select_rows, union_firsts,
+    keep_rows, keeps_all_rows, left_join_pairs, select_rows, union_firsts,
 };
 use predicate_core::{Atom, Pred};
 use query_core::Agg;
@@ -8,265 +8,312 @@ use sqlite_items::Items;
 use std::alloc::Global;
 use std::test::Fail;
 use table_core::{Tuple, same_cells};
-use value_core::{CmpOp, Value, Word, read_int};
+use value_core::{CmpOp, OutOfMemory, Value, Word, read_int};
 
-// The value of a spelling: NULL where it is empty, else a number where it spells one, else a text.
-fn value(alloc: Global, spelling: &str) -> Result<Value, Fail> {
-    if spelling.is_empty() {
+// The value of a word: NULL where it is a dash, else a number where it spells one, else a text.
+fn value(alloc: Global, word: &str) -> Result<Value, Fail> {
+    if word == "-" {
         return Ok(Value::Null);
     }
-    match read_int(spelling.as_bytes()) {
+    match read_int(word.as_bytes()) {
         Some(number) => Ok(Value::Int(number)),
-        None => Ok(Value::Text(Word::of(alloc, spelling.as_bytes())?)),
+        None => Ok(Value::Text(Word::of(alloc, word.as_bytes())?)),
     }
 }
 
-pub(crate) fn row(alloc: Global, spellings: &[&str]) -> Result<Tuple, Fail> {
+// The row of a line's words.
+pub(crate) fn row(alloc: Global, line: &str) -> Result<Tuple, Fail> {
     let mut cells = Vec::new(alloc);
-    for spelling in spellings {
-        cells.push(value(alloc, spelling)?)?;
+    for word in line.split_whitespace() {
+        cells.push(value(alloc, word)?)?;
     }
     Ok(Tuple::of(cells))
 }
 
-fn rows(alloc: Global, table: &[&[&str]]) -> Result<Items<Tuple>, Fail> {
+// The rows of a text's lines.
+fn rows(alloc: Global, text: &str) -> Result<Items<Tuple>, Fail> {
     let mut out = Items::new(alloc);
-    for spellings in table {
-        out.push(row(alloc, spellings)?)?;
+    for line in text.lines() {
+        out.push(row(alloc, line)?)?;
     }
     Ok(out)
 }
 
-// Whether these are the rows of a table, in its order.
-pub(crate) fn are_rows(alloc: Global, found: &[Tuple], table: &[&[&str]]) -> Result<bool, Fail> {
-    let wanted = rows(alloc, table)?;
-    Ok(
-        found.len() == wanted.len()
-            && found
-                .iter()
-                .zip(wanted.as_slice())
-                .all(|(a, b)| same_cells(a.cells(), b.cells())),
-    )
+fn same_lists(xs: &[Tuple], ys: &[Tuple]) -> bool {
+    xs.len() == ys.len()
+        && xs
+            .iter()
+            .zip(ys)
+            .all(|(x, y)| same_cells(x.cells(), y.cells()))
 }
 
-const TABLE: [&[&str]; 4] = [&["1", "10"], &["2", ""], &["", ""], &["1", "10"]];
-
-#[test]
-fn keeps_rows(rt: HostRuntime) -> Result<(), Fail> {
-    let alloc = rt.alloc();
-    let table = rows(alloc, &TABLE)?;
-    let table = table.as_slice();
-    let constants = [Value::Int(1)];
-    let is_null = Pred::One(Atom::IsNull(1));
-    let cases: [(Pred, &[&[&str]], bool); 5] = [
-        (Pred::Always, &TABLE, false),
-        (
-            Pred::One(Atom::Const(0, CmpOp::Eq, 0)),
-            &[&["1", "10"], &["1", "10"]],
-            false,
-        ),
-        (
-            Pred::One(Atom::Const(0, CmpOp::Ne, 0)),
-            &[&["2", ""]],
-            false,
-        ),
-        (is_null, &[&["2", ""], &["", ""]], true),
-        (Pred::One(Atom::Cols(0, CmpOp::Gt, 1)), &[], false),
-    ];
-    for (pred, wanted, is_alike) in cases {
-        let kept = keep_rows(alloc, &constants, table, &pred)?;
-        assert!(rt; are_rows(alloc, kept.as_slice(), wanted)?);
-        assert_eq!(rt; keeps_all_rows(&constants, table, &pred), wanted.len() == 4);
-        assert_eq!(rt;
-            keeps_same_rows(&constants, table, &pred, &is_null),
-            is_alike
-        );
-    }
-    Ok(())
+// Whether these are the rows of a text's lines, in their order.
+pub(crate) fn are_rows(alloc: Global, found: &[Tuple], text: &str) -> Result<bool, Fail> {
+    Ok(same_lists(found, rows(alloc, text)?.as_slice()))
 }
 
-#[test]
-fn selects_rows(rt: HostRuntime) -> Result<(), Fail> {
-    let alloc = rt.alloc();
-    let table = rows(alloc, &TABLE)?;
-    let table = table.as_slice();
-    // Columns, the rows of these columns, and each of them once.
-    let cases: [(&[usize], &[&[&str]], &[&[&str]]); 3] = [
-        (&[1], &[&["10"], &[""], &[""], &["10"]], &[&["10"], &[""]]),
-        (
-            &[1, 0],
-            &[&["10", "1"], &["", "2"], &["", ""], &["10", "1"]],
-            &[&["10", "1"], &["", "2"], &["", ""]],
-        ),
-        (&[], &[&[], &[], &[], &[]], &[&[]]),
-    ];
-    for (picks, wanted, once) in cases {
-        let selected = select_rows(alloc, picks, table)?;
-        assert!(rt; are_rows(alloc, selected.as_slice(), wanted)?);
-        let firsts = first_rows(alloc, selected.as_slice())?;
-        assert!(rt; are_rows(alloc, firsts.as_slice(), once)?);
+// What is done to one or two lists of rows.
+enum Step {
+    Keep(Pred),
+    Select(&'static [usize]),
+    Firsts,
+    Join(Pred),
+    LeftJoin(Pred),
+    Cross,
+    Append,
+    Unite,
+    Group(&'static [usize], Agg),
+}
+
+// The rows that a predicate keeps, where the only constant is 1.
+fn kept(alloc: Global, rows: &[Tuple], pred: &Pred) -> Result<Items<Tuple>, OutOfMemory> {
+    keep_rows(alloc, &[Value::Int(1)], rows, pred)
+}
+
+// The rows that a step gives, none where a sum leaves 64 bits. The right rows have two columns.
+fn stepped(
+    alloc: Global,
+    step: &Step,
+    lefts: &[Tuple],
+    rights: &[Tuple],
+) -> Result<Option<Items<Tuple>>, OutOfMemory> {
+    let found = match step {
+        Step::Keep(pred) => kept(alloc, lefts, pred)?,
+        Step::Select(picks) => select_rows(alloc, picks, lefts)?,
+        Step::Firsts => first_rows(alloc, lefts)?,
+        Step::Join(pred) => join_pairs(alloc, &[], lefts, rights, pred)?,
+        Step::LeftJoin(pred) => left_join_pairs(alloc, &[], 2, lefts, rights, pred)?,
+        Step::Cross => cross_rows(alloc, lefts, rights)?,
+        Step::Append => append_rows(alloc, lefts, rights)?,
+        Step::Unite => union_firsts(alloc, lefts, rights)?,
+        Step::Group(keys, agg) => return group_tuples(alloc, keys, agg, lefts),
+    };
+    Ok(Some(found))
+}
+
+fn gives(
+    alloc: Global,
+    step: &Step,
+    lefts: &[Tuple],
+    rights: &[Tuple],
+    wanted: Option<&str>,
+) -> Result<bool, Fail> {
+    match (stepped(alloc, step, lefts, rights)?, wanted) {
+        (Some(found), Some(wanted)) => are_rows(alloc, found.as_slice(), wanted),
+        (found, wanted) => Ok(found.is_none() && wanted.is_none()),
     }
-    // Rows, whether those of the second column are they, and whether these, each once, are they.
-    let outputs: [(&[&[&str]], bool, bool); 4] = [
-        (&[&[""], &["10"], &["10"], &[""]], true, false),
-        (&[&[""], &["10"], &[""], &[""]], false, false),
-        (&[&["10"], &["10"], &[""]], false, false),
-        (&[&[""], &["10"]], false, true),
-    ];
-    for (output, by_all, by_firsts) in outputs {
-        let output = rows(alloc, output)?;
-        assert_eq!(rt; has_double_selected(&[0], output.as_slice()), !by_firsts);
-        for (distinct, wanted) in [(false, by_all), (true, by_firsts)] {
-            let gives = gives_rows(alloc, &[1], distinct, table, output.as_slice())?;
-            assert_eq!(rt; gives, wanted);
+}
+
+// A step, left rows, right rows, and the rows that are wanted, none where a sum leaves 64 bits.
+type Case = (Step, &'static str, &'static str, Option<&'static str>);
+
+fn is_right(alloc: Global, (step, lefts, rights, wanted): &Case) -> Result<bool, Fail> {
+    let lefts = rows(alloc, lefts)?;
+    let rights = rows(alloc, rights)?;
+    gives(alloc, step, lefts.as_slice(), rights.as_slice(), *wanted)
+}
+
+// The place of the first case that isn't right.
+fn first_wrong(alloc: Global, cases: &[Case]) -> Result<Option<usize>, Fail> {
+    for (at, case) in cases.iter().enumerate() {
+        if !is_right(alloc, case)? {
+            return Ok(Some(at));
         }
     }
-    Ok(())
+    Ok(None)
 }
 
-#[test]
-fn joins_rows(rt: HostRuntime) -> Result<(), Fail> {
-    let alloc = rt.alloc();
-    let lefts = rows(alloc, &[&["x"], &["y"]])?;
-    let lefts = lefts.as_slice();
-    let same_key = Pred::One(Atom::Cols(0, CmpOp::Eq, 1));
-    // Right rows, the predicate, the pairs that it keeps, and the left join.
-    let cases: [(&[&[&str]], Pred, &[&[&str]], &[&[&str]]); 3] = [
-        (
-            &[&["x", "7"]],
-            same_key,
-            &[&["x", "x", "7"]],
-            &[&["x", "x", "7"], &["y", "", ""]],
-        ),
-        (
-            &[&["y", "1"], &["x", "2"]],
-            Pred::Always,
-            &[
-                &["x", "y", "1"],
-                &["x", "x", "2"],
-                &["y", "y", "1"],
-                &["y", "x", "2"],
-            ],
-            &[
-                &["x", "y", "1"],
-                &["x", "x", "2"],
-                &["y", "y", "1"],
-                &["y", "x", "2"],
-            ],
-        ),
-        (&[], Pred::Always, &[], &[&["x", "", ""], &["y", "", ""]]),
-    ];
-    for (rights, pred, joined, padded) in cases {
-        let rights = rows(alloc, rights)?;
-        let rights = rights.as_slice();
-        let found = join_pairs(alloc, &[], lefts, rights, &pred)?;
-        assert!(rt; are_rows(alloc, found.as_slice(), joined)?);
-        let found = left_join_pairs(alloc, &[], 2, lefts, rights, &pred)?;
-        assert!(rt; are_rows(alloc, found.as_slice(), padded)?);
-        let pairs = cross_rows(alloc, lefts, rights)?;
-        let kept = keep_rows(alloc, &[], pairs.as_slice(), &pred)?;
-        assert!(rt; are_rows(alloc, kept.as_slice(), joined)?);
-    }
-    Ok(())
-}
+const TABLE: &str = "1 10\n2 -\n- -\n1 10";
 
-#[test]
-fn unions_rows(rt: HostRuntime) -> Result<(), Fail> {
-    let alloc = rt.alloc();
-    // Left rows, right rows, all of them, and each once.
-    let cases: [(&[&[&str]], &[&[&str]], &[&[&str]], &[&[&str]]); 2] = [
-        (&[&["a"]], &[&["a"]], &[&["a"], &["a"]], &[&["a"]]),
-        (
-            &[&["b"], &[""]],
-            &[&[""], &["a"], &["b"]],
-            &[&["b"], &[""], &[""], &["a"], &["b"]],
-            &[&["b"], &[""], &["a"]],
-        ),
-    ];
-    for (lefts, rights, all, once) in cases {
-        let lefts = rows(alloc, lefts)?;
-        let rights = rows(alloc, rights)?;
-        let found = append_rows(alloc, lefts.as_slice(), rights.as_slice())?;
-        assert!(rt; are_rows(alloc, found.as_slice(), all)?);
-        let found = union_firsts(alloc, lefts.as_slice(), rights.as_slice())?;
-        assert!(rt; are_rows(alloc, found.as_slice(), once)?);
-    }
-    Ok(())
-}
+const ONE: Pred = Pred::One(Atom::Const(0, CmpOp::Eq, 0));
+
+const NOT_ONE: Pred = Pred::One(Atom::Const(0, CmpOp::Ne, 0));
+
+const SECOND_NULL: Pred = Pred::One(Atom::IsNull(1));
+
+const GREATER: Pred = Pred::One(Atom::Cols(0, CmpOp::Gt, 1));
+
+const SAME_KEY: Pred = Pred::One(Atom::Cols(0, CmpOp::Eq, 1));
+
+const PAIRS: &str = "x y 1\nx x 2\ny y 1\ny x 2";
 
 // Two groups of several rows, one of them with NULL as its key, and a group without a value.
-const GROUPS: [&[&str]; 6] = [
-    &["a", "1"],
-    &["", "2"],
-    &["b", ""],
-    &["a", "3"],
-    &["", ""],
-    &["a", "1"],
+const GROUPS: &str = "a 1\n- 2\nb -\na 3\n- -\na 1";
+
+const CASES: &[Case] = &[
+    (Step::Keep(Pred::Always), TABLE, "", Some(TABLE)),
+    (Step::Keep(ONE), TABLE, "", Some("1 10\n1 10")),
+    (Step::Keep(NOT_ONE), TABLE, "", Some("2 -")),
+    (Step::Keep(SECOND_NULL), TABLE, "", Some("2 -\n- -")),
+    (Step::Keep(GREATER), TABLE, "", Some("")),
+    (Step::Select(&[1]), TABLE, "", Some("10\n-\n-\n10")),
+    (Step::Firsts, "10\n-\n-\n10", "", Some("10\n-")),
+    (
+        Step::Select(&[1, 0]),
+        TABLE,
+        "",
+        Some("10 1\n- 2\n- -\n10 1"),
+    ),
+    (
+        Step::Firsts,
+        "10 1\n- 2\n- -\n10 1",
+        "",
+        Some("10 1\n- 2\n- -"),
+    ),
+    (Step::Select(&[]), TABLE, "", Some("\n\n\n\n")),
+    (Step::Firsts, "\n\n\n\n", "", Some("\n")),
+    (Step::Cross, "x\ny", "x 7", Some("x x 7\ny x 7")),
+    (Step::Keep(SAME_KEY), "x x 7\ny x 7", "", Some("x x 7")),
+    (Step::Join(SAME_KEY), "x\ny", "x 7", Some("x x 7")),
+    (
+        Step::LeftJoin(SAME_KEY),
+        "x\ny",
+        "x 7",
+        Some("x x 7\ny - -"),
+    ),
+    (Step::Cross, "x\ny", "y 1\nx 2", Some(PAIRS)),
+    (Step::Join(Pred::Always), "x\ny", "y 1\nx 2", Some(PAIRS)),
+    (
+        Step::LeftJoin(Pred::Always),
+        "x\ny",
+        "y 1\nx 2",
+        Some(PAIRS),
+    ),
+    (Step::Cross, "x\ny", "", Some("")),
+    (Step::Join(Pred::Always), "x\ny", "", Some("")),
+    (
+        Step::LeftJoin(Pred::Always),
+        "x\ny",
+        "",
+        Some("x - -\ny - -"),
+    ),
+    (Step::Append, "a", "a", Some("a\na")),
+    (Step::Unite, "a", "a", Some("a")),
+    (Step::Append, "b\n-", "-\na\nb", Some("b\n-\n-\na\nb")),
+    (Step::Unite, "b\n-", "-\na\nb", Some("b\n-\na")),
+    (
+        Step::Group(&[0], Agg::CountAll),
+        GROUPS,
+        "",
+        Some("a 3\n- 2\nb 1"),
+    ),
+    (
+        Step::Group(&[0], Agg::Count(1)),
+        GROUPS,
+        "",
+        Some("a 3\n- 1\nb 0"),
+    ),
+    (
+        Step::Group(&[0], Agg::CountDistinct(1)),
+        GROUPS,
+        "",
+        Some("a 2\n- 1\nb 0"),
+    ),
+    (
+        Step::Group(&[0], Agg::Sum(1)),
+        GROUPS,
+        "",
+        Some("a 5\n- 2\nb -"),
+    ),
+    (
+        Step::Group(&[0], Agg::Min(1)),
+        GROUPS,
+        "",
+        Some("a 1\n- 2\nb -"),
+    ),
+    (
+        Step::Group(&[0], Agg::Max(1)),
+        GROUPS,
+        "",
+        Some("a 3\n- 2\nb -"),
+    ),
+    (Step::Group(&[], Agg::Max(0)), GROUPS, "", Some("b")),
+    (Step::Group(&[], Agg::Sum(1)), GROUPS, "", Some("7")),
+    (Step::Group(&[], Agg::CountAll), "", "", Some("0")),
+    (Step::Group(&[], Agg::Sum(0)), "", "", Some("-")),
+    (Step::Group(&[0], Agg::CountAll), "", "", Some("")),
+    (
+        Step::Group(&[], Agg::Sum(0)),
+        "9223372036854775807\n1",
+        "",
+        None,
+    ),
+    (
+        Step::Group(&[], Agg::Sum(0)),
+        "9223372036854775807\n1\n-1",
+        "",
+        Some("9223372036854775807"),
+    ),
 ];
 
 #[test]
-fn groups_rows(rt: HostRuntime) -> Result<(), Fail> {
-    let alloc = rt.alloc();
-    let cases: [(&[&[&str]], &[usize], Agg, &[&[&str]]); 11] = [
-        (
-            &GROUPS,
-            &[0],
-            Agg::CountAll,
-            &[&["a", "3"], &["", "2"], &["b", "1"]],
-        ),
-        (
-            &GROUPS,
-            &[0],
-            Agg::Count(1),
-            &[&["a", "3"], &["", "1"], &["b", "0"]],
-        ),
-        (
-            &GROUPS,
-            &[0],
-            Agg::CountDistinct(1),
-            &[&["a", "2"], &["", "1"], &["b", "0"]],
-        ),
-        (
-            &GROUPS,
-            &[0],
-            Agg::Sum(1),
-            &[&["a", "5"], &["", "2"], &["b", ""]],
-        ),
-        (
-            &GROUPS,
-            &[0],
-            Agg::Min(1),
-            &[&["a", "1"], &["", "2"], &["b", ""]],
-        ),
-        (
-            &GROUPS,
-            &[0],
-            Agg::Max(1),
-            &[&["a", "3"], &["", "2"], &["b", ""]],
-        ),
-        (&GROUPS, &[], Agg::Max(0), &[&["b"]]),
-        (&GROUPS, &[], Agg::Sum(1), &[&["7"]]),
-        (&[], &[], Agg::CountAll, &[&["0"]]),
-        (&[], &[], Agg::Sum(0), &[&[""]]),
-        (&[], &[0], Agg::CountAll, &[]),
-    ];
-    for (table, keys, agg, wanted) in cases {
-        let table = rows(alloc, table)?;
-        let groups = group_tuples(alloc, keys, &agg, table.as_slice())?.ok_or("no value")?;
-        assert!(rt; are_rows(alloc, groups.as_slice(), wanted)?);
-    }
+fn steps_over_rows(rt: HostRuntime) -> Result<(), Fail> {
+    assert_eq!(rt; first_wrong(rt.alloc(), CASES)?, None);
     Ok(())
 }
 
+// What is asked of the rows of `TABLE`.
+enum Question {
+    KeepsAll(Pred),
+    GivesSecond { distinct: bool },
+    HasDouble,
+}
+
+fn keeps_all(rows: &[Tuple], pred: &Pred) -> bool {
+    keeps_all_rows(&[Value::Int(1)], rows, pred)
+}
+
+fn answer(
+    alloc: Global,
+    question: &Question,
+    table: &[Tuple],
+    output: &[Tuple],
+) -> Result<bool, OutOfMemory> {
+    match question {
+        Question::KeepsAll(pred) => Ok(keeps_all(table, pred)),
+        Question::GivesSecond { distinct } => gives_rows(alloc, &[1], *distinct, table, output),
+        Question::HasDouble => Ok(has_double_selected(&[0], output)),
+    }
+}
+
+// A question, the output that it is asked of, and the answer.
+type Asked = (Question, &'static str, bool);
+
+fn is_answered(alloc: Global, (question, output, wanted): &Asked) -> Result<bool, Fail> {
+    let table = rows(alloc, TABLE)?;
+    let output = rows(alloc, output)?;
+    Ok(answer(alloc, question, table.as_slice(), output.as_slice())? == *wanted)
+}
+
+const ALL: Question = Question::GivesSecond { distinct: false };
+
+const ONCE: Question = Question::GivesSecond { distinct: true };
+
+const QUESTIONS: &[Asked] = &[
+    (Question::KeepsAll(Pred::Always), "", true),
+    (Question::KeepsAll(ONE), "", false),
+    (Question::KeepsAll(NOT_ONE), "", false),
+    (Question::KeepsAll(SECOND_NULL), "", false),
+    (Question::KeepsAll(GREATER), "", false),
+    (ALL, "-\n10\n10\n-", true),
+    (ONCE, "-\n10\n10\n-", false),
+    (Question::HasDouble, "-\n10\n10\n-", true),
+    (ALL, "-\n10\n-\n-", false),
+    (ONCE, "-\n10\n-\n-", false),
+    (Question::HasDouble, "-\n10\n-\n-", true),
+    (ALL, "10\n10\n-", false),
+    (ONCE, "10\n10\n-", false),
+    (Question::HasDouble, "10\n10\n-", true),
+    (ALL, "-\n10", false),
+    (ONCE, "-\n10", true),
+    (Question::HasDouble, "-\n10", false),
+];
+
 #[test]
-fn sums_exactly(rt: HostRuntime) -> Result<(), Fail> {
+fn answers_questions(rt: HostRuntime) -> Result<(), Fail> {
     let alloc = rt.alloc();
-    let past: [&[&str]; 2] = [&["9223372036854775807"], &["1"]];
-    let table = rows(alloc, &past)?;
-    assert!(rt; group_tuples(alloc, &[], &Agg::Sum(0), table.as_slice())?.is_none());
-    let back: [&[&str]; 3] = [&["9223372036854775807"], &["1"], &["-1"]];
-    let table = rows(alloc, &back)?;
-    let groups = group_tuples(alloc, &[], &Agg::Sum(0), table.as_slice())?.ok_or("no value")?;
-    assert!(rt; are_rows(alloc, groups.as_slice(), &[&["9223372036854775807"]])?);
+    for asked in QUESTIONS {
+        assert!(rt; is_answered(alloc, asked)?);
+    }
     Ok(())
 }
