@@ -1,5 +1,5 @@
 -- Values, their order, and SQL's comparison of them.
-use Rattle.std.specs.Prelude.{Bool, true, false, if◌then◌else◌}
+use Rattle.std.specs.Prelude.{Bool, true, false, ◌||◌, Option, Some, None, if◌then◌else◌}
 use Rattle.std.specs.declared.cmp.Ordering.{Ordering}
 use Rattle.std.specs.declared.cmp.Ordering.TheVariants.{Less, Equal, Greater}
 use Rattle.std.specs.Ordering.{nat_cmp, int_cmp, is_eq, is_ne, is_lt, is_le, is_gt, is_ge}
@@ -38,24 +38,15 @@ holds Le o = is_le o
 holds Gt o = is_gt o
 holds Ge o = is_ge o
 
--- SQL's comparison: unknown where a side is NULL
-abbrev pub compare : CmpOp → Value → Value → Truth
-compare op Null b = Unknown
-compare op (Int n) Null = Unknown
-compare op (Text s) Null = Unknown
-compare op (Int n) (Int m) = if holds op (order (Int n) (Int m)) then Yes else No
-compare op (Int n) (Text t) = if holds op (order (Int n) (Text t)) then Yes else No
-compare op (Text s) (Int m) = if holds op (order (Text s) (Int m)) then Yes else No
-compare op (Text s) (Text t) = if holds op (order (Text s) (Text t)) then Yes else No
+-- whether a value is NULL
+abbrev pub is_null : Value → Bool
+is_null Null = true
+is_null (Int n) = false
+is_null (Text s) = false
 
--- whether a value may stand in a column of this type: NULL may stand in each
-abbrev pub fits : ColType → Value → Bool
-fits kind.Int Null = true
-fits kind.Int (Int n) = true
-fits kind.Int (Text s) = false
-fits kind.Text Null = true
-fits kind.Text (Int n) = false
-fits kind.Text (Text s) = true
+-- SQL's comparison: unknown where a side is NULL, else by the order
+abbrev pub compare : CmpOp → Value → Value → Truth
+compare op a b = if is_null a || is_null b then Unknown else (if holds op (order a b) then Yes else No)
 
 -- whether two types are the same
 abbrev pub same_type : ColType → ColType → Bool
@@ -64,10 +55,21 @@ same_type kind.Int kind.Text = false
 same_type kind.Text kind.Int = false
 same_type kind.Text kind.Text = true
 
+-- the type of a value; NULL has none
+abbrev pub type_of : Value → Option ColType
+type_of Null = None
+type_of (Int n) = Some kind.Int
+type_of (Text s) = Some kind.Text
+
+-- whether these two are the same, where there is a second
+abbrev pub is_type : ColType → Option ColType → Bool
+is_type t None = false
+is_type t (Some u) = same_type t u
+
 -- whether a value is of a type; NULL is of none
 abbrev pub is_of_type : ColType → Value → Bool
-is_of_type t Null = false
-is_of_type kind.Int (Int n) = true
-is_of_type kind.Int (Text s) = false
-is_of_type kind.Text (Int n) = false
-is_of_type kind.Text (Text s) = true
+is_of_type t v = is_type t (type_of v)
+
+-- whether a value may stand in a column of this type: NULL may stand in each
+abbrev pub fits : ColType → Value → Bool
+fits t v = is_null v || is_of_type t v

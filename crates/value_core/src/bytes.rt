@@ -23,10 +23,8 @@ impl Bytes {
     pub fn of(alloc: Global, from: &[u8]) -> Result<Bytes, OutOfMemory>
         ensures { IfOk result (λ b. b ≡ from.now) }
     {
-        match Vec::from_slice(alloc, from) {
-            Ok(items) => Ok(Bytes { items }),
-            Err(_) => Err(OutOfMemory),
-        }
+        let items = Vec::from_slice(alloc, from)?;
+        Ok(Bytes { items })
     }
 
     /// The bytes of a vector, which is taken over without a copy.

@@ -81,15 +81,12 @@ pub fn same_is_equality(a: &Value, b: &Value)
 pub fn compare(op: CmpOp, a: &Value, b: &Value) -> Truth
     ensures { result ≡ compare op a.now b.now }
 {
-    match (a, b) {
-        (Value::Null, _) => Truth::Unknown,
-        (_, Value::Null) => Truth::Unknown,
-        _ => {
-            if op.holds(order(a, b)) {
-                Truth::Yes
-            } else {
-                Truth::No
-            }
-        }
+    if a.is_null() || b.is_null() {
+        return Truth::Unknown;
+    }
+    if op.holds(order(a, b)) {
+        Truth::Yes
+    } else {
+        Truth::No
     }
 }

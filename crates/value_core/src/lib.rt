@@ -14,10 +14,7 @@ pub use bytes::Bytes;
 pub use comparison::{CmpOp, Truth, compare, order, order_is_total, same, same_is_equality};
 pub use fault::OutOfMemory;
 pub use integer::read_int;
-pub use items::{copied, joined};
+pub use items::{concatenated, copied};
 pub use text::is_text;
 pub use value::{ColType, Value};
-pub use word::{Word, WordFault};
-
-#[cfg(test)]
-mod tests;
+pub use word::{LONGEST_WORD, Word, WordFault};

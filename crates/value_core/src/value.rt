@@ -26,27 +26,38 @@ impl ColType {
     pub fn is_type_of(self, value: &Value) -> bool
         ensures { result ≡ is_of_type self value.now }
     {
-        match (self, value) {
-            (ColType::Int, Value::Int(_)) => true,
-            (ColType::Text, Value::Text(_)) => true,
-            _ => false,
-        }
+        value.kind() == Some(self)
     }
 
     /// Whether a value may stand in a column of this type: NULL, or a value of it.
     pub fn fits(self, value: &Value) -> bool
         ensures { result ≡ fits self value.now }
     {
-        match (self, value) {
-            (_, Value::Null) => true,
-            (ColType::Int, Value::Int(_)) => true,
-            (ColType::Text, Value::Text(_)) => true,
-            _ => false,
-        }
+        value.is_null() || self.is_type_of(value)
     }
 }
 
 impl Value {
+    ghost use Rattle.value_core.specs.Value.{is_null, type_of};
+
+    /// Whether this is NULL.
+    pub fn is_null(&self) -> bool
+        ensures { result ≡ is_null self.now }
+    {
+        matches!(self, Value::Null)
+    }
+
+    /// The type of this value, which NULL hasn't.
+    pub fn kind(&self) -> Option<ColType>
+        ensures { result ≡ type_of self.now }
+    {
+        match self {
+            Value::Null => None,
+            Value::Int(_) => Some(ColType::Int),
+            Value::Text(_) => Some(ColType::Text),
+        }
+    }
+
     /// An equal value.
     pub fn copy(&self, alloc: Global) -> Result<Value, OutOfMemory>
         ensures { IfOk result (λ v. v ≡ self.now) }

@@ -63,9 +63,7 @@ impl Word {
     pub fn copy(&self, alloc: Global) -> Result<Word, OutOfMemory>
         ensures { IfOk result (λ w. w ≡ self.now) }
     {
-        match Vec::from_slice(alloc, self.items.as_slice()) {
-            Ok(items) => Ok(Word { items }),
-            Err(_) => Err(OutOfMemory),
-        }
+        let items = Vec::from_slice(alloc, self.items.as_slice())?;
+        Ok(Word { items })
     }
 }
