@@ -10,7 +10,7 @@ use query_core::{same_type, table_types};
 use sqlite_items::Items;
 use std::alloc::Global;
 use table_core::{Table, Tuple};
-use value_core::{ColType, OutOfMemory, Value, joined, same};
+use value_core::{ColType, OutOfMemory, Value, concatenated, same};
 
 // Whether a row's value at a place is another's at another place, NULL where there is none.
 fn same_at(row: &[Value], at: usize, other: &[Value], place: usize) -> bool
@@ -96,7 +96,7 @@ fn push_maps_from(
     ensures { OnOk result (out.new ≡ out.old ++ map (λ rest. at ∷ rest) rests.now) }
 {
     for rest in rests {
-        out.push(joined(alloc, &[at], rest.as_slice())?)
+        out.push(concatenated(alloc, &[at], rest.as_slice())?)
             .map_err(|_| OutOfMemory)?;
     }
     Ok(())

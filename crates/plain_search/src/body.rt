@@ -13,7 +13,7 @@ use query_core::{Agg, Node, group_types, input_types};
 use sqlite_items::Items;
 use std::alloc::Global;
 use table_core::{TaskParts, Tuple};
-use value_core::{ColType, OutOfMemory, copied, joined};
+use value_core::{ColType, OutOfMemory, copied, concatenated};
 
 /// A tree whose predicates are all filled, with its columns' types, its predicates' numbers and its rows.
 #[derive(Debug, Drop)]
@@ -108,7 +108,7 @@ impl Body {
         Ok(Body {
             node: Node::Filter(self.node.boxed(alloc)?, choice.pred),
             types: copied(alloc, self.types.as_slice())?,
-            numbers: joined(alloc, self.numbers.as_slice(), &[choice.number])?,
+            numbers: concatenated(alloc, self.numbers.as_slice(), &[choice.number])?,
             rows: keep_rows(alloc, constants, self.rows.as_slice(), &choice.pred)?,
         })
     }
@@ -124,11 +124,11 @@ impl Body {
     ) -> Result<Body, OutOfMemory>
         ensures { IfOk result (λ b. filled b ≡ pair_filled task.now kind (filled self.now) (filled other.now) choice.now) }
     {
-        let parts = joined(alloc, self.numbers.as_slice(), other.numbers.as_slice())?;
+        let parts = concatenated(alloc, self.numbers.as_slice(), other.numbers.as_slice())?;
         Ok(Body {
             node: paired(alloc, kind, &self.node, &other.node, choice.pred)?,
-            types: joined(alloc, self.types.as_slice(), other.types.as_slice())?,
-            numbers: joined(alloc, parts.as_slice(), &[choice.number])?,
+            types: concatenated(alloc, self.types.as_slice(), other.types.as_slice())?,
+            numbers: concatenated(alloc, parts.as_slice(), &[choice.number])?,
             rows: paired_rows(
                 alloc,
                 kind,
@@ -170,7 +170,7 @@ impl Body {
         Ok(Body {
             node: united(alloc, kind, &self.node, &other.node)?,
             types: copied(alloc, self.types.as_slice())?,
-            numbers: joined(alloc, self.numbers.as_slice(), other.numbers.as_slice())?,
+            numbers: concatenated(alloc, self.numbers.as_slice(), other.numbers.as_slice())?,
             rows: united_rows(alloc, kind, self.rows.as_slice(), other.rows.as_slice())?,
         })
     }

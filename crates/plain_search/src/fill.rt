@@ -12,7 +12,7 @@ use query_core::{Agg, Node};
 use sqlite_items::Items;
 use std::alloc::Global;
 use table_core::TaskParts;
-use value_core::{OutOfMemory, joined};
+use value_core::{OutOfMemory, concatenated};
 
 /// The choices of the predicate of a filter over this body.
 pub fn child_choices(
@@ -44,7 +44,7 @@ pub fn pair_choices(
     requires few { task.now.atoms ≤ 3 }
     ensures { IfOk result (λ cs. cs ≡ pair_choices task.now (filled a.now) (filled b.now)) }
 {
-    let types = joined(alloc, a.types.as_slice(), b.types.as_slice())?;
+    let types = concatenated(alloc, a.types.as_slice(), b.types.as_slice())?;
     let pairs = cross_rows(alloc, a.rows.as_slice(), b.rows.as_slice())?;
     choices(
         alloc,

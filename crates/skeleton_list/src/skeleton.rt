@@ -14,7 +14,7 @@ use query_core::{Agg, Node, group_types, input_types};
 use sqlite_items::Items;
 use std::alloc::Global;
 use table_core::TaskParts;
-use value_core::{ColType, OutOfMemory, copied, joined};
+use value_core::{ColType, OutOfMemory, copied, concatenated};
 
 /// A skeleton with the table numbers of its leaves and the types of its columns.
 #[derive(Debug, Drop)]
@@ -70,7 +70,7 @@ fn paired_types(
     ensures { IfOk result (λ types. types ≡ paired_types kind a.now b.now) }
 {
     match kind {
-        Pairing::Join | Pairing::Left => joined(alloc, a, b),
+        Pairing::Join | Pairing::Left => concatenated(alloc, a, b),
         Pairing::UnionAll | Pairing::Union => copied(alloc, a),
     }
 }
@@ -174,7 +174,7 @@ impl Skeleton {
     {
         Ok(Skeleton {
             node: paired_node(alloc, kind, &self.node, &other.node)?,
-            leaves: joined(alloc, self.leaves.as_slice(), other.leaves.as_slice())?,
+            leaves: concatenated(alloc, self.leaves.as_slice(), other.leaves.as_slice())?,
             types: paired_types(alloc, kind, self.types.as_slice(), other.types.as_slice())?,
         })
     }
