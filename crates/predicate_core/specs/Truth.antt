@@ -1,8 +1,8 @@
 -- What a predicate says of a row.
-use Rattle.std.specs.Prelude.{ℕ, Bool, true, false, List, slice_get, unwrap_or}
-use Rattle.value_core.specs.Value.{compare}
+use Rattle.std.specs.Prelude.{ℕ, Bool, true, false, not, List, slice_get, unwrap_or}
+use Rattle.value_core.specs.Value.{compare, is_null}
 use Rattle.value_core.specs.declared.value.Value.{Value}
-use Rattle.value_core.specs.declared.value.Value.TheVariants.{Null, Int, Text}
+use Rattle.value_core.specs.declared.value.Value.TheVariants.{Null}
 use Rattle.value_core.specs.declared.comparison.Truth.{Truth}
 use Rattle.value_core.specs.declared.comparison.Truth.TheVariants.{Yes, No, Unknown}
 use Rattle.predicate_core.specs.declared.atom.Atom.{Atom}
@@ -14,17 +14,10 @@ use Rattle.predicate_core.specs.declared.pred.Pred.TheVariants.{Always, One, And
 abbrev pub value_at : List Value → ℕ → Value
 value_at values at = unwrap_or (slice_get values at) Null
 
--- whether a value is NULL, which is never unknown
-abbrev pub null_truth : Value → Truth
-null_truth Null = Yes
-null_truth (Int n) = No
-null_truth (Text s) = No
-
--- the opposite truth: unknown stays unknown
-abbrev pub negated : Truth → Truth
-negated Yes = No
-negated No = Yes
-negated Unknown = Unknown
+-- the truth of what is never unknown
+abbrev pub truth_of : Bool → Truth
+truth_of true = Yes
+truth_of false = No
 
 -- AND: no where a side is no, else unknown where a side is unknown
 abbrev pub both : Truth → Truth → Truth
@@ -46,8 +39,8 @@ either Unknown Unknown = Unknown
 abbrev pub atom_truth : List Value → List Value → Atom → Truth
 atom_truth constants row (Cols i op j) = compare op (value_at row i) (value_at row j)
 atom_truth constants row (Const i op k) = compare op (value_at row i) (value_at constants k)
-atom_truth constants row (IsNull i) = null_truth (value_at row i)
-atom_truth constants row (NotNull i) = negated (null_truth (value_at row i))
+atom_truth constants row (IsNull i) = truth_of (is_null (value_at row i))
+atom_truth constants row (NotNull i) = truth_of (not (is_null (value_at row i)))
 
 -- the truth of a predicate on a row
 abbrev pub truth : List Value → Pred → List Value → Truth

@@ -1,7 +1,6 @@
-ghost use Rattle.std.specs.Prelude.{◌≡◌, if◌then◌else◌};
-ghost use Rattle.predicate_core.specs.Truth.{value_at, atom_truth, null_truth};
-ghost use Rattle.value_core.specs.Value.{compare};
-ghost use Rattle.value_core.specs.declared.comparison.Truth.TheVariants.{Yes, No};
+ghost use Rattle.std.specs.Prelude.{◌≡◌};
+ghost use Rattle.predicate_core.specs.Truth.{value_at, truth_of, atom_truth};
+ghost use Rattle.value_core.specs.Value.{compare, is_null};
 
 use value_core::{CmpOp, Truth, Value, compare};
 
@@ -26,14 +25,21 @@ fn compared(op: CmpOp, left: &[Value], i: usize, right: &[Value], j: usize) -> T
     }
 }
 
-// Whether the value at a place is NULL.
+// Whether the value at a place is NULL, as one that isn't there is.
 fn is_null(row: &[Value], i: usize) -> bool
-    ensures { (if result then Yes else No) ≡ null_truth (value_at row.now i) }
+    ensures { result ≡ is_null (value_at row.now i) }
 {
     match row.get(i) {
-        Some(Value::Int(_)) | Some(Value::Text(_)) => false,
-        Some(Value::Null) | None => true,
+        Some(value) => value.is_null(),
+        None => true,
     }
+}
+
+// The truth of what is never unknown.
+fn truth_of(holds: bool) -> Truth
+    ensures { result ≡ truth_of holds }
+{
+    if holds { Truth::Yes } else { Truth::No }
 }
 
 /// The truth of an atom on a row.
@@ -43,19 +49,7 @@ pub fn atom_truth(atom: Atom, row: &[Value], constants: &[Value]) -> Truth
     match atom {
         Atom::Cols(i, op, j) => compared(op, row, i, row, j),
         Atom::Const(i, op, k) => compared(op, row, i, constants, k),
-        Atom::IsNull(i) => {
-            if is_null(row, i) {
-                Truth::Yes
-            } else {
-                Truth::No
-            }
-        }
-        Atom::NotNull(i) => {
-            if is_null(row, i) {
-                Truth::No
-            } else {
-                Truth::Yes
-            }
-        }
+        Atom::IsNull(i) => truth_of(is_null(row, i)),
+        Atom::NotNull(i) => truth_of(!is_null(row, i)),
     }
 }

@@ -17,7 +17,7 @@ are_output task q (Some given) = (length q.picks == length task.output.columns) 
 
 -- whether a query gives the example output
 abbrev pub gives : TaskParts → Select → Bool
-gives task q = are_output task q (answer task q)
+gives task q = are_output task q (answer task.inputs task.constants q)
 
 -- a query with its key
 pub record RankedQuery : Type 0 where

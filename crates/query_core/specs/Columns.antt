@@ -1,5 +1,5 @@
 -- What is wrong with the numbers and the types of a tree.
-use Rattle.std.specs.Prelude.{ℕ, Bool, true, not, ◌&&◌, nat_lt, List, ◌++◌, length, Option, Some, None, if◌then◌else◌}
+use Rattle.std.specs.Prelude.{ℕ, Bool, true, not, ◌&&◌, nat_lt, List, length, Option, Some, None, if◌then◌else◌}
 use Rattle.std.specs.List.{list_all}
 use Rattle.std.specs.Cmp.Lexicographic.{pointwise}
 use Rattle.value_core.specs.Value.{same_type, is_of_type}
@@ -14,7 +14,7 @@ use Rattle.predicate_core.specs.declared.pred.Pred.{Pred}
 use Rattle.table_core.specs.declared.task.TaskParts.{TaskParts}
 use Rattle.query_core.specs.Tree.{Tree}
 use Rattle.query_core.specs.Tree as t
-use Rattle.query_core.specs.Meaning.{columns, type_at}
+use Rattle.query_core.specs.Meaning.{columns, hole_types, type_at}
 use Rattle.query_core.specs.declared.agg.Agg.{Agg}
 use Rattle.query_core.specs.declared.agg.Agg.TheVariants.{CountAll, Count, CountDistinct, Sum, Min, Max}
 use Rattle.query_core.specs.declared.fault.QueryFault.{QueryFault}
@@ -24,11 +24,9 @@ use Rattle.query_core.specs.declared.fault.QueryFault.TheVariants.{BadTable, Bad
 abbrev pub names_inputs : TaskParts → Tree → Bool
 names_inputs task (t.base table) = nat_lt table (length task.inputs)
 names_inputs task (t.filter child p) = names_inputs task child
-names_inputs task (t.join a b p) = names_inputs task a && names_inputs task b
-names_inputs task (t.left a b p) = names_inputs task a && names_inputs task b
+names_inputs task (t.pair kind a b p) = names_inputs task a && names_inputs task b
 names_inputs task (t.group child keys agg) = names_inputs task child
-names_inputs task (t.union_all a b) = names_inputs task a && names_inputs task b
-names_inputs task (t.union a b) = names_inputs task a && names_inputs task b
+names_inputs task (t.unite kind a b) = names_inputs task a && names_inputs task b
 
 -- whether the numbers of an atom are those of columns and constants, of which there are so many
 abbrev pub atom_in_range : ℕ → ℕ → Atom → Bool
@@ -53,12 +51,11 @@ agg_in_range width (Max column) = nat_lt column width
 -- whether each column and constant that a tree names is there
 abbrev pub names_columns : TaskParts → Tree → Bool
 names_columns task (t.base table) = true
-names_columns task (t.filter child p) = names_columns task child && pred_in_range (length (columns task child)) (length task.constants) p
-names_columns task (t.join a b p) = (names_columns task a && names_columns task b) && pred_in_range (length (columns task a ++ columns task b)) (length task.constants) p
-names_columns task (t.left a b p) = (names_columns task a && names_columns task b) && pred_in_range (length (columns task a ++ columns task b)) (length task.constants) p
-names_columns task (t.group child keys agg) = names_columns task child && (list_all (λ k. nat_lt k (length (columns task child))) keys && agg_in_range (length (columns task child)) agg)
-names_columns task (t.union_all a b) = names_columns task a && names_columns task b
-names_columns task (t.union a b) = names_columns task a && names_columns task b
+names_columns task (t.filter child p) = names_columns task child && pred_in_range (length (columns task.inputs child)) (length task.constants) p
+names_columns task (t.pair kind a b p) = (names_columns task a && names_columns task b) && pred_in_range (length (hole_types task.inputs a b)) (length task.constants) p
+names_columns task (t.group child keys agg) =
+    names_columns task child && (list_all (λ k. nat_lt k (length (columns task.inputs child))) keys && agg_in_range (length (columns task.inputs child)) agg)
+names_columns task (t.unite kind a b) = names_columns task a && names_columns task b
 
 -- whether an atom compares what is of one type
 abbrev pub atom_agrees : List ColType → List Value → Atom → Bool
@@ -83,12 +80,10 @@ agg_agrees types (Max column) = true
 -- whether the types of a tree agree: what is compared is of one type, sums are of numbers, and the parts of a union have equal types
 abbrev pub types_agree : TaskParts → Tree → Bool
 types_agree task (t.base table) = true
-types_agree task (t.filter child p) = types_agree task child && pred_agrees (columns task child) task.constants p
-types_agree task (t.join a b p) = (types_agree task a && types_agree task b) && pred_agrees (columns task a ++ columns task b) task.constants p
-types_agree task (t.left a b p) = (types_agree task a && types_agree task b) && pred_agrees (columns task a ++ columns task b) task.constants p
-types_agree task (t.group child keys agg) = types_agree task child && agg_agrees (columns task child) agg
-types_agree task (t.union_all a b) = (types_agree task a && types_agree task b) && pointwise same_type (columns task a) (columns task b)
-types_agree task (t.union a b) = (types_agree task a && types_agree task b) && pointwise same_type (columns task a) (columns task b)
+types_agree task (t.filter child p) = types_agree task child && pred_agrees (columns task.inputs child) task.constants p
+types_agree task (t.pair kind a b p) = (types_agree task a && types_agree task b) && pred_agrees (hole_types task.inputs a b) task.constants p
+types_agree task (t.group child keys agg) = types_agree task child && agg_agrees (columns task.inputs child) agg
+types_agree task (t.unite kind a b) = (types_agree task a && types_agree task b) && pointwise same_type (columns task.inputs a) (columns task.inputs b)
 
 -- the first thing that is wrong with a tree: a leaf that names no input, a column or constant that isn't there, types that differ
 abbrev pub columns_fault : TaskParts → Tree → Option QueryFault

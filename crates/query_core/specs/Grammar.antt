@@ -15,9 +15,13 @@ use Rattle.table_core.specs.declared.agg_set.AggSet.{AggSet}
 use Rattle.table_core.specs.declared.task.TaskParts.{TaskParts}
 use Rattle.query_core.specs.Tree.{Tree, Select}
 use Rattle.query_core.specs.Tree as t
-use Rattle.query_core.specs.Meaning.{columns, type_at}
+use Rattle.query_core.specs.Meaning.{columns, hole_types, type_at}
 use Rattle.query_core.specs.declared.agg.Agg.{Agg}
 use Rattle.query_core.specs.declared.agg.Agg.TheVariants.{CountAll, Count, CountDistinct, Sum, Min, Max}
+use Rattle.query_core.specs.declared.kinds.Pairing.{Pairing}
+use Rattle.query_core.specs.declared.kinds.Pairing.TheVariants.{Join, Left}
+use Rattle.query_core.specs.declared.kinds.Uniting.{Uniting}
+use Rattle.query_core.specs.declared.kinds.Uniting.TheVariants.{All, Firsts}
 
 -- A skeleton is a tree whose predicates are still open: each stands as Always.
 
@@ -25,21 +29,22 @@ use Rattle.query_core.specs.declared.agg.Agg.TheVariants.{CountAll, Count, Count
 abbrev pub leaves : Tree → List ℕ
 leaves (t.base table) = table ∷ []
 leaves (t.filter child p) = leaves child
-leaves (t.join a b p) = leaves a ++ leaves b
-leaves (t.left a b p) = leaves a ++ leaves b
+leaves (t.pair kind a b p) = leaves a ++ leaves b
 leaves (t.group child keys agg) = leaves child
-leaves (t.union_all a b) = leaves a ++ leaves b
-leaves (t.union a b) = leaves a ++ leaves b
+leaves (t.unite kind a b) = leaves a ++ leaves b
 
--- whether a filter may stand over a tree: not over another filter, nor over a join, which has a predicate of its own
+-- whether a filter may stand over a pair: not over a join, whose own predicate says the same
+abbrev pub pair_takes_filter : Pairing → Bool
+pair_takes_filter Join = false
+pair_takes_filter Left = true
+
+-- whether a filter may stand over a tree: not over another filter, nor over a join
 abbrev pub takes_filter : Tree → Bool
 takes_filter (t.base table) = true
 takes_filter (t.filter child p) = false
-takes_filter (t.join a b p) = false
-takes_filter (t.left a b p) = true
+takes_filter (t.pair kind a b p) = pair_takes_filter kind
 takes_filter (t.group child keys agg) = true
-takes_filter (t.union_all a b) = true
-takes_filter (t.union a b) = true
+takes_filter (t.unite kind a b) = true
 
 -- whether two trees may be parts of one: they have no more leaves than the task allows
 abbrev pub may_meet : TaskParts → Tree × Tree → Bool
@@ -51,7 +56,20 @@ in_order p = not (is_gt (slice_cmp nat_cmp (leaves p.0) (leaves p.1)))
 
 -- whether two parts have the same column types
 abbrev pub same_types : TaskParts → Tree × Tree → Bool
-same_types task p = pointwise same_type (columns task p.0) (columns task p.1)
+same_types task p = pointwise same_type (columns task.inputs p.0) (columns task.inputs p.1)
+
+-- whether two parts may stand in this order in a pair: those of a join in the order of their leaves
+abbrev pub pair_in_order : Pairing → Tree × Tree → Bool
+pair_in_order Join p = in_order p
+pair_in_order Left p = true
+
+-- whether two trees may be a pair
+abbrev pub may_pair : TaskParts → Pairing → Tree × Tree → Bool
+may_pair task kind p = may_meet task p && pair_in_order kind p
+
+-- whether two trees may be united
+abbrev pub may_unite : TaskParts → Tree × Tree → Bool
+may_unite task p = (may_meet task p && in_order p) && same_types task p
 
 -- the level of a number, empty where there is none
 abbrev pub level_at : List (List Tree) → ℕ → List Tree
@@ -73,18 +91,12 @@ last_level levels = level_at levels (length levels - 1)
 abbrev pub filters_over : List Tree → List Tree
 filters_over last = map (λ child. t.filter child Always) (list_filter takes_filter last)
 
--- the joins, the left joins and the unions of some pairs
-abbrev pub joins_of : TaskParts → List (Tree × Tree) → List Tree
-joins_of task ps = map (λ p. t.join p.0 p.1 Always) (list_filter (λ p. may_meet task p && in_order p) ps)
+-- the pairs of a kind, and the unions of a kind, of some two trees
+abbrev pub pairs_of : TaskParts → Pairing → List (Tree × Tree) → List Tree
+pairs_of task kind ps = map (λ p. t.pair kind p.0 p.1 Always) (list_filter (may_pair task kind) ps)
 
-abbrev pub lefts_of : TaskParts → List (Tree × Tree) → List Tree
-lefts_of task ps = map (λ p. t.left p.0 p.1 Always) (list_filter (may_meet task) ps)
-
-abbrev pub union_alls_of : TaskParts → List (Tree × Tree) → List Tree
-union_alls_of task ps = map (λ p. t.union_all p.0 p.1) (list_filter (λ p. (may_meet task p && in_order p) && same_types task p) ps)
-
-abbrev pub unions_of : TaskParts → List (Tree × Tree) → List Tree
-unions_of task ps = map (λ p. t.union p.0 p.1) (list_filter (λ p. (may_meet task p && in_order p) && same_types task p) ps)
+abbrev pub unions_of : TaskParts → Uniting → List (Tree × Tree) → List Tree
+unions_of task kind ps = map (λ p. t.unite kind p.0 p.1) (list_filter (may_unite task) ps)
 
 -- the key lists over so many columns: none, then single columns, then pairs of ascending columns
 abbrev pub key_lists : ℕ → List (List ℕ)
@@ -115,17 +127,17 @@ agg_list set types keys =
 -- the groups over a tree: for each list of keys each aggregate
 abbrev pub groups_of : TaskParts → Tree → List Tree
 groups_of task child =
-    flat_map (λ keys. map (t.group child keys) (agg_list task.aggregates (columns task child) keys)) (key_lists (length (columns task child)))
+    flat_map (λ keys. map (t.group child keys) (agg_list task.aggregates (columns task.inputs child) keys)) (key_lists (length (columns task.inputs child)))
 
 -- the skeletons with one operator more than the levels so far have
 abbrev pub next_level : TaskParts → List (List Tree) → List Tree
 next_level task levels =
     filters_over (last_level levels) ++ (
-    joins_of task (level_pairs levels) ++ (
-    lefts_of task (level_pairs levels) ++ (
+    pairs_of task Join (level_pairs levels) ++ (
+    pairs_of task Left (level_pairs levels) ++ (
     flat_map (groups_of task) (last_level levels) ++ (
-    union_alls_of task (level_pairs levels) ++
-    unions_of task (level_pairs levels)))))
+    unions_of task All (level_pairs levels) ++
+    unions_of task Firsts (level_pairs levels)))))
 
 -- the skeletons with no operator: the inputs in order
 abbrev pub bases : TaskParts → List Tree
@@ -152,25 +164,20 @@ filter_predicates task types = drop 1 (predicates task types)
 abbrev pub of_each : {A : Type 0} → (Tree → Tree → List A) → List Tree → List Tree → List A
 of_each f xs ys = flat_map (λ x. flat_map (f x) ys) xs
 
--- the trees of a filter over a filled child, of a join and of a left join of filled parts, one for each predicate
+-- the trees of a filter over a filled child, and of a pair of filled parts, one for each predicate
 abbrev pub filters_filled : TaskParts → Tree → List Tree
-filters_filled task child = map (t.filter child) (filter_predicates task (columns task child))
+filters_filled task child = map (t.filter child) (filter_predicates task (columns task.inputs child))
 
-abbrev pub joins_filled : TaskParts → Tree → Tree → List Tree
-joins_filled task a b = map (t.join a b) (predicates task (columns task a ++ columns task b))
-
-abbrev pub lefts_filled : TaskParts → Tree → Tree → List Tree
-lefts_filled task a b = map (t.left a b) (predicates task (columns task a ++ columns task b))
+abbrev pub pairs_filled : TaskParts → Pairing → Tree → Tree → List Tree
+pairs_filled task kind a b = map (t.pair kind a b) (predicates task (hole_types task.inputs a b))
 
 -- each way to fill the holes of a skeleton
 abbrev pub fillings : TaskParts → Tree → List Tree
 fillings task (t.base table) = t.base table ∷ []
 fillings task (t.filter child p) = flat_map (filters_filled task) (fillings task child)
-fillings task (t.join a b p) = of_each (joins_filled task) (fillings task a) (fillings task b)
-fillings task (t.left a b p) = of_each (lefts_filled task) (fillings task a) (fillings task b)
+fillings task (t.pair kind a b p) = of_each (pairs_filled task kind) (fillings task a) (fillings task b)
 fillings task (t.group child keys agg) = map (λ c. t.group c keys agg) (fillings task child)
-fillings task (t.union_all a b) = of_each (λ x y. t.union_all x y ∷ []) (fillings task a) (fillings task b)
-fillings task (t.union a b) = of_each (λ x y. t.union x y ∷ []) (fillings task a) (fillings task b)
+fillings task (t.unite kind a b) = of_each (λ x y. t.unite kind x y ∷ []) (fillings task a) (fillings task b)
 
 -- the places of the columns of a type, numbered from `at`
 abbrev pub places_of : ColType → ℕ → List ColType → List ℕ
@@ -188,7 +195,7 @@ with_flags body picks = record { body = body; picks = picks; distinct = false } 
 
 -- the queries of a body
 abbrev pub queries_of_body : TaskParts → Tree → List Select
-queries_of_body task body = flat_map (with_flags body) (maps (columns task body) (types_of task.output))
+queries_of_body task body = flat_map (with_flags body) (maps (columns task.inputs body) (types_of task.output))
 
 -- the queries of a skeleton
 abbrev pub queries_of : TaskParts → Tree → List Select

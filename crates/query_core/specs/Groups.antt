@@ -3,13 +3,12 @@ use Rattle.std.specs.Prelude.{ℕ, ℤ, pos, neg_ℤ, ◌+ℤ◌, ◌^◌, int_l
 use Rattle.std.specs.Prelude.{filter as list_filter}
 use Rattle.std.specs.List.{fold}
 use Rattle.std.specs.Ordering.{is_lt}
-use Rattle.value_core.specs.Value.{order}
+use Rattle.value_core.specs.Value.{order, is_null}
 use Rattle.value_core.specs.declared.value.Value.{Value}
 use Rattle.value_core.specs.declared.value.Value.TheVariants.{Null, Int, Text}
 use Rattle.predicate_core.specs.Truth.{value_at}
 use Rattle.table_core.specs.Rows.{Row}
 use Rattle.table_core.specs.Bag.{same_cells}
-use Rattle.table_core.specs.Limits.{is_null}
 use Rattle.query_core.specs.Firsts.{projected, firsts}
 use Rattle.query_core.specs.declared.agg.Agg.{Agg}
 use Rattle.query_core.specs.declared.agg.Agg.TheVariants.{CountAll, Count, CountDistinct, Sum, Min, Max}

@@ -6,6 +6,8 @@ use Rattle.value_core.specs.declared.value.Value.TheVariants.{Null}
 use Rattle.predicate_core.specs.Truth.{keeps}
 use Rattle.predicate_core.specs.declared.pred.Pred.{Pred}
 use Rattle.table_core.specs.Rows.{Row}
+use Rattle.query_core.specs.declared.kinds.Pairing.{Pairing}
+use Rattle.query_core.specs.declared.kinds.Pairing.TheVariants.{Join, Left}
 
 -- a left row with each right row
 abbrev pub pairs_with : List Row → Row → List Row
@@ -31,3 +33,8 @@ or_padded width l (pair ∷ pairs) = pair ∷ pairs
 -- each left row's kept pairs, or itself padded; the right rows have so many columns
 abbrev pub left_joined : List Value → Pred → ℕ → List Row → List Row → List Row
 left_joined constants p width lefts rights = flat_map (λ l. or_padded width l (kept_pairs constants p rights l)) lefts
+
+-- the rows of a pair of parts; the right rows have so many columns
+abbrev pub paired : Pairing → List Value → Pred → ℕ → List Row → List Row → List Row
+paired Join constants p width lefts rights = joined constants p lefts rights
+paired Left constants p width lefts rights = left_joined constants p width lefts rights

@@ -1,5 +1,5 @@
 -- The standard form: the first predicate of those that keep the same rows, and nothing that changes nothing.
-use Rattle.std.specs.Prelude.{Bool, true, false, not, ◌&&◌, ◌||◌, List, [], ◌++◌, unwrap_or, find}
+use Rattle.std.specs.Prelude.{Bool, true, false, not, ◌&&◌, ◌||◌, List, [], unwrap_or, find}
 use Rattle.std.specs.List.{list_all}
 use Rattle.value_core.specs.declared.value.Value.{Value}
 use Rattle.value_core.specs.declared.value.ColType.{ColType}
@@ -12,7 +12,7 @@ use Rattle.table_core.specs.declared.task.TaskParts.{TaskParts}
 use Rattle.query_core.specs.Tree.{Tree, Select}
 use Rattle.query_core.specs.Tree as t
 use Rattle.query_core.specs.Joins.{crossed}
-use Rattle.query_core.specs.Meaning.{columns, rows, selected}
+use Rattle.query_core.specs.Meaning.{columns, hole_types, rows, selected}
 use Rattle.query_core.specs.Grammar.{predicates}
 
 -- whether two truth values are the same
@@ -38,7 +38,7 @@ keeps_all constants candidates p = list_all (keeps constants p) candidates
 
 -- the rows of a tree, none where a sum in it has no value
 abbrev pub rows_or_none : TaskParts → Tree → List Row
-rows_or_none task tree = unwrap_or (rows task tree) []
+rows_or_none task tree = unwrap_or (rows task.inputs task.constants tree) []
 
 -- whether a predicate over columns of these types, choosing from these rows, is the first of those that keep the same
 abbrev pub is_first : TaskParts → List ColType → List Row → Pred → Bool
@@ -47,21 +47,19 @@ is_first task types candidates p = is_first_alike task.constants candidates (pre
 -- whether a filter's predicate is standard: the first of those alike, and not one that keeps all
 abbrev pub is_standard_filter : TaskParts → Tree → Pred → Bool
 is_standard_filter task child p =
-    is_first task (columns task child) (rows_or_none task child) p && not (keeps_all task.constants (rows_or_none task child) p)
+    is_first task (columns task.inputs child) (rows_or_none task child) p && not (keeps_all task.constants (rows_or_none task child) p)
 
--- whether the predicate of a join or a left join is standard: the first of those alike on all pairs
+-- whether the predicate of a pair is standard: the first of those alike on all pairs
 abbrev pub is_standard_pair : TaskParts → Tree → Tree → Pred → Bool
-is_standard_pair task a b p = is_first task (columns task a ++ columns task b) (crossed (rows_or_none task a) (rows_or_none task b)) p
+is_standard_pair task a b p = is_first task (hole_types task.inputs a b) (crossed (rows_or_none task a) (rows_or_none task b)) p
 
 -- whether each predicate of a tree is standard
 abbrev pub is_standard_tree : TaskParts → Tree → Bool
 is_standard_tree task (t.base table) = true
 is_standard_tree task (t.filter child p) = is_standard_tree task child && is_standard_filter task child p
-is_standard_tree task (t.join a b p) = (is_standard_tree task a && is_standard_tree task b) && is_standard_pair task a b p
-is_standard_tree task (t.left a b p) = (is_standard_tree task a && is_standard_tree task b) && is_standard_pair task a b p
+is_standard_tree task (t.pair kind a b p) = (is_standard_tree task a && is_standard_tree task b) && is_standard_pair task a b p
 is_standard_tree task (t.group child keys agg) = is_standard_tree task child
-is_standard_tree task (t.union_all a b) = is_standard_tree task a && is_standard_tree task b
-is_standard_tree task (t.union a b) = is_standard_tree task a && is_standard_tree task b
+is_standard_tree task (t.unite kind a b) = is_standard_tree task a && is_standard_tree task b
 
 -- whether a query is standard: its predicates are, and where it removes duplicates there are some
 abbrev pub is_standard : TaskParts → Select → Bool

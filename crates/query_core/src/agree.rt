@@ -3,12 +3,12 @@ ghost use Rattle.std.specs.Cmp.Lexicographic.{pointwise};
 ghost use Rattle.value_core.specs.Value.{same_type, is_of_type};
 ghost use Rattle.predicate_core.specs.Truth.{value_at};
 ghost use Rattle.query_core.specs.View.{tree};
-ghost use Rattle.query_core.specs.Meaning.{columns};
+ghost use Rattle.query_core.specs.Meaning.{columns, hole_types};
 ghost use Rattle.query_core.specs.Columns.{atom_agrees, pred_agrees, agg_agrees, types_agree};
 
 use crate::agg::Agg;
 use crate::node::Node;
-use crate::types::{node_types, pair_types, type_at};
+use crate::types::{hole_types, node_types, type_at};
 use predicate_core::{Atom, Pred};
 use std::alloc::Global;
 use table_core::TaskParts;
@@ -91,18 +91,18 @@ fn pair_agrees(
     b: &Node,
     pred: &Pred,
 ) -> Result<bool, OutOfMemory>
-    ensures { IfOk result (λ ok. ok ≡ pred_agrees (columns task.now (tree a.now) ++ columns task.now (tree b.now)) task.now.constants pred.now) }
+    ensures { IfOk result (λ ok. ok ≡ pred_agrees (hole_types task.now.inputs (tree a.now) (tree b.now)) task.now.constants pred.now) }
 {
-    let types = pair_types(alloc, task, a, b)?;
+    let types = hole_types(alloc, task.inputs.as_slice(), a, b)?;
     Ok(pred_agrees(types.as_slice(), task.constants.as_slice(), pred))
 }
 
 // Whether two trees have columns of the same types.
 fn may_unite(alloc: Global, task: &TaskParts, a: &Node, b: &Node) -> Result<bool, OutOfMemory>
-    ensures { IfOk result (λ ok. ok ≡ pointwise same_type (columns task.now (tree a.now)) (columns task.now (tree b.now))) }
+    ensures { IfOk result (λ ok. ok ≡ pointwise same_type (columns task.now.inputs (tree a.now)) (columns task.now.inputs (tree b.now))) }
 {
-    let lefts = node_types(alloc, task, a)?;
-    let rights = node_types(alloc, task, b)?;
+    let lefts = node_types(alloc, task.inputs.as_slice(), a)?;
+    let rights = node_types(alloc, task.inputs.as_slice(), b)?;
     Ok(same_types(lefts.as_slice(), rights.as_slice()))
 }
 
@@ -116,7 +116,7 @@ pub fn types_agree(alloc: Global, task: &TaskParts, node: &Node) -> Result<bool,
             if !types_agree(alloc, task, child.get())? {
                 return Ok(false);
             }
-            let types = node_types(alloc, task, child.get())?;
+            let types = node_types(alloc, task.inputs.as_slice(), child.get())?;
             Ok(pred_agrees(types.as_slice(), task.constants.as_slice(), pred))
         }
         Node::Join(a, b, pred) | Node::Left(a, b, pred) => {
@@ -132,7 +132,7 @@ pub fn types_agree(alloc: Global, task: &TaskParts, node: &Node) -> Result<bool,
             if !types_agree(alloc, task, child.get())? {
                 return Ok(false);
             }
-            let types = node_types(alloc, task, child.get())?;
+            let types = node_types(alloc, task.inputs.as_slice(), child.get())?;
             Ok(agg_agrees(types.as_slice(), agg))
         }
         Node::UnionAll(a, b) | Node::Union(a, b) => {

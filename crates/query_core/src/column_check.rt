@@ -33,11 +33,13 @@ fn fault_of(alloc: Global, task: &TaskParts, node: &Node) -> Result<Option<Query
 /// constant that isn't there, types that differ.
 pub fn columns(alloc: Global, task: &TaskParts, node: &Node) -> Result<Items<ColType>, QueryFault>
     ensures { MatchResult result
-        (λ types. (types ≡ columns task.now (tree node.now)) × (columns_fault task.now (tree node.now) ≡ None))
+        (λ types. (types ≡ columns task.now.inputs (tree node.now)) × (columns_fault task.now (tree node.now) ≡ None))
         (λ fault. (fault ≡ QueryFault.OutOfMemory) ⊎ (columns_fault task.now (tree node.now) ≡ Some fault)) }
 {
     match fault_of(alloc, task, node) {
-        Ok(None) => node_types(alloc, task, node).map_err(|_| QueryFault::OutOfMemory),
+        Ok(None) => node_types(alloc, task.inputs.as_slice(), node).map_err(
+            |_| QueryFault::OutOfMemory,
+        ),
         Ok(Some(fault)) => Err(fault),
         Err(_) => Err(QueryFault::OutOfMemory),
     }

@@ -5,6 +5,7 @@ mod agg;
 mod agree;
 mod column_check;
 mod fault;
+mod kinds;
 mod names;
 mod node;
 mod query;
@@ -14,12 +15,10 @@ pub use agg::Agg;
 pub use agree::{same_type, same_types, types_agree};
 pub use column_check::columns;
 pub use fault::QueryFault;
+pub use kinds::{Pairing, Uniting};
 pub use names::{names_columns, names_inputs};
 pub use node::Node;
 pub use query::Query;
 pub use types::{
     agg_type, group_types, input_types, node_types, picked_types, table_types, type_at,
 };
-
-#[cfg(test)]
-mod tests;

@@ -2,12 +2,12 @@ ghost use Rattle.std.specs.Prelude.{◌≡◌, ◌++◌, ◌&&◌, nat_lt, lengt
 ghost use Rattle.std.specs.List.{list_all};
 ghost use Rattle.predicate_core.specs.Equal.{atoms_of};
 ghost use Rattle.query_core.specs.View.{tree};
-ghost use Rattle.query_core.specs.Meaning.{columns};
+ghost use Rattle.query_core.specs.Meaning.{columns, hole_types};
 ghost use Rattle.query_core.specs.Columns.{names_inputs, atom_in_range, pred_in_range, agg_in_range, names_columns};
 
 use crate::agg::Agg;
 use crate::node::Node;
-use crate::types::{node_types, pair_types};
+use crate::types::{hole_types, node_types};
 use predicate_core::{Atom, Pred};
 use std::alloc::Global;
 use table_core::TaskParts;
@@ -84,9 +84,9 @@ fn pair_in_range(
     b: &Node,
     pred: &Pred,
 ) -> Result<bool, OutOfMemory>
-    ensures { IfOk result (λ ok. ok ≡ pred_in_range (length (columns task.now (tree a.now) ++ columns task.now (tree b.now))) (length task.now.constants) pred.now) }
+    ensures { IfOk result (λ ok. ok ≡ pred_in_range (length (hole_types task.now.inputs (tree a.now) (tree b.now))) (length task.now.constants) pred.now) }
 {
-    let types = pair_types(alloc, task, a, b)?;
+    let types = hole_types(alloc, task.inputs.as_slice(), a, b)?;
     Ok(pred_in_range(types.len(), task.constants.len(), pred))
 }
 
@@ -100,7 +100,7 @@ pub fn names_columns(alloc: Global, task: &TaskParts, node: &Node) -> Result<boo
             if !names_columns(alloc, task, child.get())? {
                 return Ok(false);
             }
-            let types = node_types(alloc, task, child.get())?;
+            let types = node_types(alloc, task.inputs.as_slice(), child.get())?;
             Ok(pred_in_range(types.len(), task.constants.len(), pred))
         }
         Node::Join(a, b, pred) | Node::Left(a, b, pred) => {
@@ -116,7 +116,7 @@ pub fn names_columns(alloc: Global, task: &TaskParts, node: &Node) -> Result<boo
             if !names_columns(alloc, task, child.get())? {
                 return Ok(false);
             }
-            let types = node_types(alloc, task, child.get())?;
+            let types = node_types(alloc, task.inputs.as_slice(), child.get())?;
             Ok(group_in_range(types.len(), keys.as_slice(), agg))
         }
         Node::UnionAll(a, b) | Node::Union(a, b) => {

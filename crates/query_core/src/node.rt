@@ -1,6 +1,7 @@
 ghost use Rattle.std.specs.Prelude.{◌≡◌, IfOk};
 
 use crate::agg::Agg;
+use crate::kinds::{Pairing, Uniting};
 use predicate_core::Pred;
 use sqlite_items::{Boxed, Items};
 use std::alloc::Global;
@@ -21,15 +22,35 @@ pub enum Node {
 }
 
 impl Node {
+    ghost use Rattle.query_core.specs.Tree as t;
+    ghost use Rattle.query_core.specs.View.{tree};
+
+    /// Two parts paired.
+    pub fn pair(kind: Pairing, a: Boxed<Node>, b: Boxed<Node>, pred: Pred) -> Node
+        ensures { tree result ≡ t.pair kind (tree a) (tree b) pred }
+    {
+        match kind {
+            Pairing::Join => Node::Join(a, b, pred),
+            Pairing::Left => Node::Left(a, b, pred),
+        }
+    }
+
+    /// Two parts united.
+    pub fn unite(kind: Uniting, a: Boxed<Node>, b: Boxed<Node>) -> Node
+        ensures { tree result ≡ t.unite kind (tree a) (tree b) }
+    {
+        match kind {
+            Uniting::All => Node::UnionAll(a, b),
+            Uniting::Firsts => Node::Union(a, b),
+        }
+    }
+
     /// An equal tree in a box of its own.
     #[cycle(copy)]
     pub fn boxed(&self, alloc: Global) -> Result<Boxed<Node>, OutOfMemory>
         ensures { IfOk result (λ b. b ≡ self.now) }
     {
-        match Boxed::new(alloc, self.copy(alloc)?) {
-            Ok(node) => Ok(node),
-            Err(_) => Err(OutOfMemory),
-        }
+        Ok(Boxed::new(alloc, self.copy(alloc)?)?)
     }
 
     /// An equal tree.

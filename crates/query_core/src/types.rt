@@ -1,13 +1,13 @@
 ghost use Rattle.std.specs.Prelude.{◌≡◌, ◌++◌, ◌∷◌, [], IfOk, map};
 ghost use Rattle.table_core.specs.Rows.{types_of};
 ghost use Rattle.query_core.specs.View.{tree};
-ghost use Rattle.query_core.specs.Meaning.{input_at, type_at, agg_type, group_types, columns};
+ghost use Rattle.query_core.specs.Meaning.{input_at, type_at, agg_type, group_types, columns, hole_types};
 
 use crate::agg::Agg;
 use crate::node::Node;
 use sqlite_items::Items;
 use std::alloc::Global;
-use table_core::{Table, TaskParts};
+use table_core::Table;
 use value_core::{ColType, OutOfMemory};
 
 /// The type of a column, text where there is none.
@@ -36,7 +36,7 @@ pub fn table_types(alloc: Global, table: &Table) -> Result<Items<ColType>, OutOf
 {
     let mut out = Items::new(alloc);
     for column in table.columns() {
-        out.push(column.kind).map_err(|_| OutOfMemory)?;
+        out.push(column.kind)?;
     }
     Ok(out)
 }
@@ -44,12 +44,12 @@ pub fn table_types(alloc: Global, table: &Table) -> Result<Items<ColType>, OutOf
 /// The types of an input's columns, none where there is no such input.
 pub fn input_types(
     alloc: Global,
-    task: &TaskParts,
+    inputs: &[Table],
     table: usize,
 ) -> Result<Items<ColType>, OutOfMemory>
-    ensures { IfOk result (λ types. types ≡ types_of (input_at task.now table)) }
+    ensures { IfOk result (λ types. types ≡ types_of (input_at inputs.now table)) }
 {
-    match task.inputs.get(table) {
+    match inputs.get(table) {
         Some(input) => table_types(alloc, input),
         None => Ok(Items::new(alloc)),
     }
@@ -65,7 +65,7 @@ pub fn picked_types(
 {
     let mut out = Items::new(alloc);
     for at in picks {
-        out.push(type_at(types, *at)).map_err(|_| OutOfMemory)?;
+        out.push(type_at(types, *at))?;
     }
     Ok(out)
 }
@@ -80,7 +80,7 @@ pub fn group_types(
     ensures { IfOk result (λ out. out ≡ group_types types.now keys.now agg.now) }
 {
     let mut out = picked_types(alloc, types, keys)?;
-    out.push(agg_type(types, agg)).map_err(|_| OutOfMemory)?;
+    out.push(agg_type(types, agg))?;
     Ok(out)
 }
 
@@ -92,44 +92,44 @@ fn joined_types(
     ensures { IfOk result (λ types. types ≡ lefts ++ rights) }
 {
     let mut types = lefts;
-    types.append(rights).map_err(|_| OutOfMemory)?;
+    types.append(rights)?;
     Ok(types)
 }
 
 /// The types of a tree's columns.
 pub fn node_types(
     alloc: Global,
-    task: &TaskParts,
+    inputs: &[Table],
     node: &Node,
 ) -> Result<Items<ColType>, OutOfMemory>
-    ensures { IfOk result (λ types. types ≡ columns task.now (tree node.now)) }
+    ensures { IfOk result (λ types. types ≡ columns inputs.now (tree node.now)) }
 {
     match node {
-        Node::Base(table) => input_types(alloc, task, *table as usize),
-        Node::Filter(child, _) => node_types(alloc, task, child.get()),
+        Node::Base(table) => input_types(alloc, inputs, *table as usize),
+        Node::Filter(child, _) => node_types(alloc, inputs, child.get()),
         Node::Join(a, b, _) | Node::Left(a, b, _) => {
-            let lefts = node_types(alloc, task, a.get())?;
-            let rights = node_types(alloc, task, b.get())?;
+            let lefts = node_types(alloc, inputs, a.get())?;
+            let rights = node_types(alloc, inputs, b.get())?;
             joined_types(lefts, rights)
         }
         Node::Group(child, keys, agg) => {
-            let types = node_types(alloc, task, child.get())?;
+            let types = node_types(alloc, inputs, child.get())?;
             group_types(alloc, types.as_slice(), keys.as_slice(), agg)
         }
-        Node::UnionAll(a, _) | Node::Union(a, _) => node_types(alloc, task, a.get()),
+        Node::UnionAll(a, _) | Node::Union(a, _) => node_types(alloc, inputs, a.get()),
     }
 }
 
-// The types of the columns of two trees side by side.
-pub(crate) fn pair_types(
+// The types of the columns over which the predicate of a pair stands.
+pub(crate) fn hole_types(
     alloc: Global,
-    task: &TaskParts,
+    inputs: &[Table],
     a: &Node,
     b: &Node,
 ) -> Result<Items<ColType>, OutOfMemory>
-    ensures { IfOk result (λ types. types ≡ columns task.now (tree a.now) ++ columns task.now (tree b.now)) }
+    ensures { IfOk result (λ types. types ≡ hole_types inputs.now (tree a.now) (tree b.now)) }
 {
-    let lefts = node_types(alloc, task, a)?;
-    let rights = node_types(alloc, task, b)?;
+    let lefts = node_types(alloc, inputs, a)?;
+    let rights = node_types(alloc, inputs, b)?;
     joined_types(lefts, rights)
 }

@@ -1,3 +1,5 @@
+ghost use Rattle.std.specs.Prelude.{◌≡◌, false};
+
 /// The aggregates that a task allows.
 #[derive(Clone, Copy, Debug, PartialEq, Eq)]
 pub struct AggSet {
@@ -19,4 +21,15 @@ impl AggSet {
         min: false,
         max: false,
     };
+
+    /// The law of `NONE`: it allows no aggregate.
+    pub fn none_allows_nothing()
+        ensures rows { AggSet.NONE.count_all ≡ false }
+        ensures values { AggSet.NONE.count ≡ false }
+        ensures distinct_values { AggSet.NONE.count_distinct ≡ false }
+        ensures sums { AggSet.NONE.sum ≡ false }
+        ensures least { AggSet.NONE.min ≡ false }
+        ensures greatest { AggSet.NONE.max ≡ false }
+    {
+    }
 }

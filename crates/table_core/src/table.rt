@@ -71,7 +71,7 @@ fn push_columns(alloc: Global, out: &mut Vec<Column>, columns: &[Column]) -> Res
     ensures { OnOk result (out.new.items ≡ out.old.items ++ columns.now) }
 {
     for column in columns {
-        out.push(column.copy(alloc)?).map_err(|_| OutOfMemory)?;
+        out.push(column.copy(alloc)?)?;
     }
     Ok(())
 }
@@ -81,7 +81,7 @@ fn push_tuples(alloc: Global, out: &mut Vec<Tuple>, tuples: &[Tuple]) -> Result<
     ensures { OnOk result (out.new.items ≡ out.old.items ++ tuples.now) }
 {
     for tuple in tuples {
-        out.push(tuple.copy(alloc)?).map_err(|_| OutOfMemory)?;
+        out.push(tuple.copy(alloc)?)?;
     }
     Ok(())
 }

@@ -52,7 +52,7 @@ fn push_tables(alloc: Global, out: &mut Items<Table>, tables: &[Table]) -> Resul
     ensures { OnOk result (out.new ≡ out.old ++ tables.now) }
 {
     for table in tables {
-        out.push(table.copy(alloc)?).map_err(|_| OutOfMemory)?;
+        out.push(table.copy(alloc)?)?;
     }
     Ok(())
 }
@@ -62,7 +62,7 @@ fn push_values(alloc: Global, out: &mut Items<Value>, values: &[Value]) -> Resul
     ensures { OnOk result (out.new ≡ out.old ++ values.now) }
 {
     for value in values {
-        out.push(value.copy(alloc)?).map_err(|_| OutOfMemory)?;
+        out.push(value.copy(alloc)?)?;
     }
     Ok(())
 }

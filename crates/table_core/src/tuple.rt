@@ -24,7 +24,7 @@ fn push_copies(alloc: Global, out: &mut Vec<Value>, cells: &[Value]) -> Result<(
     ensures { OnOk result (out.new.items ≡ out.old.items ++ cells.now) }
 {
     for cell in cells {
-        out.push(cell.copy(alloc)?).map_err(|_| OutOfMemory)?;
+        out.push(cell.copy(alloc)?)?;
     }
     Ok(())
 }
