@@ -4,7 +4,7 @@ use Rattle.std.specs.Prelude.{filter}
 use Rattle.std.specs.List.{fold}
 use Rattle.std.specs.Ordering.{is_lt}
 use Rattle.std.proofs.lemmas.Bool.{cases_Bool}
-use Rattle.value_core.specs.Value.{fits, order}
+use Rattle.value_core.specs.Value.{fits, order, is_null}
 use Rattle.value_core.specs.declared.value.Value.{Value}
 use Rattle.value_core.specs.declared.value.Value.TheVariants.{Int}
 use Rattle.value_core.specs.declared.value.ColType.{ColType}
@@ -12,7 +12,6 @@ use Rattle.value_core.specs.declared.value.ColType.TheVariants as kind
 use Rattle.predicate_core.specs.Truth.{value_at}
 use Rattle.table_core.specs.Rows.{Row}
 use Rattle.table_core.specs.Bag.{same_cells}
-use Rattle.table_core.specs.Limits.{is_null}
 use Rattle.query_core.specs.Firsts.{projected}
 use Rattle.query_core.specs.Groups.{values_of, is_within_64, sum_of, exact_sum, smaller, larger, smallest, largest, aggregate, group_keys, members, group_row, all_some, grouped}
 use Rattle.query_core.specs.Meaning.{type_at, agg_type, group_types}

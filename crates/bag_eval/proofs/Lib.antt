@@ -3,3 +3,4 @@ pub mod FitLaws
 pub mod GroupFitLaws
 pub mod TreeFitLaws
 pub mod ValueLaws
+pub mod NameLaws

@@ -13,12 +13,16 @@ use Rattle.table_core.specs.declared.column.Column.{Column}
 use Rattle.table_core.specs.declared.task.TaskParts.{TaskParts}
 use Rattle.query_core.specs.Tree.{Tree, Select}
 use Rattle.query_core.specs.Tree as t
-use Rattle.query_core.specs.Firsts.{projected, firsts}
-use Rattle.query_core.specs.Joins.{joined, left_joined}
+use Rattle.query_core.specs.Firsts.{projected, united}
+use Rattle.query_core.specs.Joins.{joined, left_joined, paired}
 use Rattle.query_core.specs.Groups.{grouped}
 use Rattle.query_core.specs.Columns.{names_inputs, names_columns, pred_agrees, agg_agrees, types_agree, columns_fault}
-use Rattle.query_core.specs.Meaning.{type_at, group_types, columns, of_both, of_rows, rows, given_rows, answer}
+use Rattle.query_core.specs.Meaning.{type_at, group_types, columns, hole_types, of_both, of_rows, rows, given_rows, answer}
 use Rattle.query_core.specs.declared.agg.Agg.{Agg}
+use Rattle.query_core.specs.declared.kinds.Pairing.{Pairing}
+use Rattle.query_core.specs.declared.kinds.Pairing.TheVariants.{Join, Left}
+use Rattle.query_core.specs.declared.kinds.Uniting.{Uniting}
+use Rattle.query_core.specs.declared.kinds.Uniting.TheVariants.{All, Firsts}
 use Rattle.query_core.specs.declared.fault.QueryFault.{QueryFault}
 use Rattle.query_core.specs.declared.fault.QueryFault.TheVariants.{BadTable, BadColumn, TypesDiffer}
 use Rattle.bag_eval.specs.Results.{rows_fit}
@@ -55,37 +59,32 @@ all_fit_too ts us rows same f = let P : List ColType → Type 0 = λ vs. AllFit 
 append_fits : (ts us : List ColType) (xs ys : List Row) → pointwise same_type ts us ≡ true → AllFit ts xs → AllFit us ys → AllFit ts (xs ++ ys)
 append_fits ts us xs ys same f g = all-append ts xs ys f (all_fit_too ts us ys same g)
 
-union_fits : (ts us : List ColType) (xs ys : List Row) → pointwise same_type ts us ≡ true → AllFit ts xs → AllFit us ys → AllFit ts (firsts (xs ++ ys))
-union_fits ts us xs ys same f g = firsts_fit ts (xs ++ ys) (append_fits ts us xs ys same f g)
+united_fit : (kind : Uniting) (ts us : List ColType) (xs ys : List Row) → pointwise same_type ts us ≡ true → AllFit ts xs → AllFit us ys → AllFit ts (united kind xs ys)
+united_fit All ts us xs ys same f g = append_fits ts us xs ys same f g
+united_fit Firsts ts us xs ys same f g = firsts_fit ts (xs ++ ys) (append_fits ts us xs ys same f g)
 
-tree_fits : (task : TaskParts) (tree : Tree) → are_tables_typed task.inputs ≡ true → types_agree task tree ≡ true → IfSome (rows task tree) (AllFit (columns task tree))
+paired_fit : (kind : Pairing) (ts us : List ColType) (k : List Value) (p : Pred) (xs ys : List Row) → AllFit ts xs → AllFit us ys → AllFit (ts ++ us) (paired kind k p (length us) xs ys)
+paired_fit Join ts us k p xs ys f g = joined_fit ts us k p xs ys f g
+paired_fit Left ts us k p xs ys f g = left_fit ts us k p xs ys f g
+
+tree_fits : (task : TaskParts) (tree : Tree) → are_tables_typed task.inputs ≡ true → types_agree task tree ≡ true → IfSome (rows task.inputs task.constants tree) (AllFit (columns task.inputs tree))
 tree_fits task (t.base table) typed agree = input_fits task.inputs table typed
 tree_fits task (t.filter child p) typed agree =
-    let both = both_true (types_agree task child) (pred_agrees (columns task child) task.constants p) agree in
-    mapped_fit (columns task child) (columns task child) (filter (keeps task.constants p)) (rows task child) (λ xs f. all-filter (columns task child) (keeps task.constants p) xs f) (tree_fits task child typed both.0)
-tree_fits task (t.join a b p) typed agree =
-    let outer = both_true (types_agree task a && types_agree task b) (pred_agrees (columns task a ++ columns task b) task.constants p) agree in
+    let both = both_true (types_agree task child) (pred_agrees (columns task.inputs child) task.constants p) agree in
+    mapped_fit (columns task.inputs child) (columns task.inputs child) (filter (keeps task.constants p)) (rows task.inputs task.constants child) (λ xs f. all-filter (columns task.inputs child) (keeps task.constants p) xs f) (tree_fits task child typed both.0)
+tree_fits task (t.pair kind a b p) typed agree =
+    let outer = both_true (types_agree task a && types_agree task b) (pred_agrees (hole_types task.inputs a b) task.constants p) agree in
     let both = both_true (types_agree task a) (types_agree task b) outer.0 in
-    both_fit (columns task a) (columns task b) (columns task a ++ columns task b) (joined task.constants p) (rows task a) (rows task b)
-    (λ xs ys f g. joined_fit (columns task a) (columns task b) task.constants p xs ys f g) (tree_fits task a typed both.0) (tree_fits task b typed both.1)
-tree_fits task (t.left a b p) typed agree =
-    let outer = both_true (types_agree task a && types_agree task b) (pred_agrees (columns task a ++ columns task b) task.constants p) agree in
-    let both = both_true (types_agree task a) (types_agree task b) outer.0 in
-    both_fit (columns task a) (columns task b) (columns task a ++ columns task b) (left_joined task.constants p (length (columns task b))) (rows task a) (rows task b)
-    (λ xs ys f g. left_fit (columns task a) (columns task b) task.constants p xs ys f g) (tree_fits task a typed both.0) (tree_fits task b typed both.1)
+    both_fit (columns task.inputs a) (columns task.inputs b) (columns task.inputs a ++ columns task.inputs b) (paired kind task.constants p (length (columns task.inputs b))) (rows task.inputs task.constants a) (rows task.inputs task.constants b)
+    (λ xs ys f g. paired_fit kind (columns task.inputs a) (columns task.inputs b) task.constants p xs ys f g) (tree_fits task a typed both.0) (tree_fits task b typed both.1)
 tree_fits task (t.group child keys agg) typed agree =
-    let both = both_true (types_agree task child) (agg_agrees (columns task child) agg) agree in
-    groups_fit (columns task child) keys agg (rows task child) (tree_fits task child typed both.0)
-tree_fits task (t.union_all a b) typed agree =
-    let outer = both_true (types_agree task a && types_agree task b) (pointwise same_type (columns task a) (columns task b)) agree in
+    let both = both_true (types_agree task child) (agg_agrees (columns task.inputs child) agg) agree in
+    groups_fit (columns task.inputs child) keys agg (rows task.inputs task.constants child) (tree_fits task child typed both.0)
+tree_fits task (t.unite kind a b) typed agree =
+    let outer = both_true (types_agree task a && types_agree task b) (pointwise same_type (columns task.inputs a) (columns task.inputs b)) agree in
     let both = both_true (types_agree task a) (types_agree task b) outer.0 in
-    both_fit (columns task a) (columns task b) (columns task a) (λ xs ys. xs ++ ys) (rows task a) (rows task b)
-    (λ xs ys f g. append_fits (columns task a) (columns task b) xs ys outer.1 f g) (tree_fits task a typed both.0) (tree_fits task b typed both.1)
-tree_fits task (t.union a b) typed agree =
-    let outer = both_true (types_agree task a && types_agree task b) (pointwise same_type (columns task a) (columns task b)) agree in
-    let both = both_true (types_agree task a) (types_agree task b) outer.0 in
-    both_fit (columns task a) (columns task b) (columns task a) (λ xs ys. firsts (xs ++ ys)) (rows task a) (rows task b)
-    (λ xs ys f g. union_fits (columns task a) (columns task b) xs ys outer.1 f g) (tree_fits task a typed both.0) (tree_fits task b typed both.1)
+    both_fit (columns task.inputs a) (columns task.inputs b) (columns task.inputs a) (united kind) (rows task.inputs task.constants a) (rows task.inputs task.constants b)
+    (λ xs ys f g. united_fit kind (columns task.inputs a) (columns task.inputs b) xs ys outer.1 f g) (tree_fits task a typed both.0) (tree_fits task b typed both.1)
 
 third_holds : (a b c : Bool) (x y z : QueryFault) → (if not a then Some x else (if not b then Some y else (if not c then Some z else None))) ≡ None → c ≡ true
 third_holds false b c x y z e = cc
@@ -101,8 +100,8 @@ or_none ts None f = refl
 or_none ts (Some rows) f = all_to ts rows f
 
 -- the rows of a tree in which nothing is wrong fit its columns' types
-pub rows_fit_columns : (task : TaskParts) (tree : Tree) → are_tables_typed task.inputs ≡ true → columns_fault task tree ≡ None → rows_fit (columns task tree) (unwrap_or (rows task tree) []) ≡ true
-rows_fit_columns task tree typed right = or_none (columns task tree) (rows task tree) (tree_fits task tree typed (agrees task tree right))
+pub rows_fit_columns : (task : TaskParts) (tree : Tree) → are_tables_typed task.inputs ≡ true → columns_fault task tree ≡ None → rows_fit (columns task.inputs tree) (unwrap_or (rows task.inputs task.constants tree) []) ≡ true
+rows_fit_columns task tree typed right = or_none (columns task.inputs tree) (rows task.inputs task.constants tree) (tree_fits task tree typed (agrees task tree right))
 
 given_fit : (ts : List ColType) (picks : List ℕ) (distinct : Bool) (body : List Row) → AllFit ts body → AllFit (map (type_at ts) picks) (given_rows picks distinct body)
 given_fit ts picks false body f = selected_fit ts picks body f
@@ -110,11 +109,11 @@ given_fit ts picks true body f = firsts_fit (map (type_at ts) picks) (map (proje
 
 -- the rows of a query with such a body fit the types of the columns that it selects
 pub answer_fits : (task : TaskParts) (q : Select) → are_tables_typed task.inputs ≡ true → columns_fault task q.body ≡ None
-    → rows_fit (map (type_at (columns task q.body)) q.picks) (unwrap_or (answer task q) []) ≡ true
+    → rows_fit (map (type_at (columns task.inputs q.body)) q.picks) (unwrap_or (answer task.inputs task.constants q) []) ≡ true
 answer_fits task q typed right =
-    let ts = columns task q.body in
-    or_none (map (type_at ts) q.picks) (answer task q)
-    (mapped_fit ts (map (type_at ts) q.picks) (given_rows q.picks q.distinct) (rows task q.body) (λ xs f. given_fit ts q.picks q.distinct xs f) (tree_fits task q.body typed (agrees task q.body right)))
+    let ts = columns task.inputs q.body in
+    or_none (map (type_at ts) q.picks) (answer task.inputs task.constants q)
+    (mapped_fit ts (map (type_at ts) q.picks) (given_rows q.picks q.distinct) (rows task.inputs task.constants q.body) (λ xs f. given_fit ts q.picks q.distinct xs f) (tree_fits task q.body typed (agrees task q.body right)))
 
 -- ---- the steps over tables
 
@@ -141,14 +140,11 @@ group_fits cs xs keys agg e =
     let ts = map (λ c. c.kind) cs in
     or_none (group_types ts keys agg) (grouped keys agg xs) (grouped_fit ts keys agg xs (typed_from cs xs e))
 
-pub unions_fit : (cs ds : List Column) (xs ys : List Row) (all : Bool) → are_typed cs xs ≡ true → are_typed ds ys ≡ true → pointwise same_type (map (λ c. c.kind) cs) (map (λ c. c.kind) ds) ≡ true
-    → rows_fit (map (λ c. c.kind) cs) (if all then xs ++ ys else firsts (xs ++ ys)) ≡ true
-unions_fit cs ds xs ys true e g same =
+pub unions_fit : (cs ds : List Column) (xs ys : List Row) (kind : Uniting) → are_typed cs xs ≡ true → are_typed ds ys ≡ true → pointwise same_type (map (λ c. c.kind) cs) (map (λ c. c.kind) ds) ≡ true
+    → rows_fit (map (λ c. c.kind) cs) (united kind xs ys) ≡ true
+unions_fit cs ds xs ys kind e g same =
     let ts = map (λ c. c.kind) cs in
-    all_to ts (xs ++ ys) (append_fits ts (map (λ c. c.kind) ds) xs ys same (typed_from cs xs e) (typed_from ds ys g))
-unions_fit cs ds xs ys false e g same =
-    let ts = map (λ c. c.kind) cs in
-    all_to ts (firsts (xs ++ ys)) (union_fits ts (map (λ c. c.kind) ds) xs ys same (typed_from cs xs e) (typed_from ds ys g))
+    all_to ts (united kind xs ys) (united_fit kind ts (map (λ c. c.kind) ds) xs ys same (typed_from cs xs e) (typed_from ds ys g))
 
 pub projection_fits : (cs : List Column) (xs : List Row) (picks : List ℕ) (distinct : Bool) → are_typed cs xs ≡ true
     → rows_fit (map (type_at (map (λ c. c.kind) cs)) picks) (given_rows picks distinct xs) ≡ true

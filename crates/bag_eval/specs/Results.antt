@@ -1,5 +1,5 @@
 -- The tables that evaluation gives: named `q`, with columns `c1`, `c2`, ..
-use Rattle.std.specs.Prelude.{ℕ, ◌+◌, Bool, List, [], ◌∷◌, ◌++◌, codes, Option, Some, None}
+use Rattle.std.specs.Prelude.{ℕ, ◌+◌, Bool, true, false, List, [], ◌∷◌, ◌++◌, codes, Option, Some, None}
 use Rattle.std.specs.Cmp.Lexicographic.{pointwise}
 use Rattle.std.specs.Fmt.{decimal}
 use Rattle.std.specs.List.{list_all}
@@ -7,6 +7,8 @@ use Rattle.value_core.specs.Value.{fits}
 use Rattle.value_core.specs.declared.value.ColType.{ColType}
 use Rattle.table_core.specs.Rows.{Row, TableData}
 use Rattle.table_core.specs.declared.column.Column.{Column}
+use Rattle.query_core.specs.declared.kinds.Uniting.{Uniting}
+use Rattle.query_core.specs.declared.kinds.Uniting.TheVariants.{All, Firsts}
 use Rattle.bag_eval.specs.declared.eval.Eval.{Eval}
 use Rattle.bag_eval.specs.declared.eval.Eval.TheVariants.{Rows, Past64}
 
@@ -31,3 +33,8 @@ result_table types rows = record { name = codes "q"; columns = named_columns 1 t
 abbrev pub evaluated : List ColType → Option (List Row) → Eval
 evaluated types None = Past64
 evaluated types (Some rows) = Rows (result_table types rows)
+
+-- how two parts are united: every copy where that is asked for, else each row once
+abbrev pub uniting : Bool → Uniting
+uniting true = All
+uniting false = Firsts

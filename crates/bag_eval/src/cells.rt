@@ -14,7 +14,7 @@ pub(crate) fn push_cells(
     ensures { OnOk result (out.new.items ≡ out.old.items ++ cells.now) }
 {
     for cell in cells {
-        out.push(cell.copy(alloc)?).map_err(|_| OutOfMemory)?;
+        out.push(cell.copy(alloc)?)?;
     }
     Ok(())
 }
@@ -24,7 +24,7 @@ fn push_nulls(out: &mut Vec<Value>, count: usize) -> Result<(), OutOfMemory>
     ensures { OnOk result (out.new.items ≡ out.old.items ++ replicate count Null) }
 {
     for _ in 0..count {
-        out.push(Value::Null).map_err(|_| OutOfMemory)?;
+        out.push(Value::Null)?;
     }
     Ok(())
 }
@@ -55,6 +55,6 @@ pub(crate) fn with_value(alloc: Global, row: &[Value], value: Value) -> Result<T
 {
     let mut cells = Vec::new(alloc);
     push_cells(alloc, &mut cells, row)?;
-    cells.push(value).map_err(|_| OutOfMemory)?;
+    cells.push(value)?;
     Ok(Tuple::of(cells))
 }

@@ -19,10 +19,9 @@ fn push_kept(
     ensures { OnOk result (out.new ≡ out.old ++ filter (keeps constants.now pred.now) (row.now ∷ [])) }
 {
     if keeps(pred, row.cells(), constants) {
-        out.push(row.copy(alloc)?).map_err(|_| OutOfMemory)
-    } else {
-        Ok(())
+        out.push(row.copy(alloc)?)?;
     }
+    Ok(())
 }
 
 /// The rows that a predicate keeps, in order.

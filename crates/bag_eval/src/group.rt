@@ -33,10 +33,10 @@ fn push_value(
     ensures { OnOk result (out.new ≡ out.old ++ values_of at (row.now ∷ [])) }
 {
     let value = copy_at(alloc, row, at)?;
-    match &value {
-        Value::Null => Ok(()),
-        Value::Int(_) | Value::Text(_) => out.push(value).map_err(|_| OutOfMemory),
+    if !value.is_null() {
+        out.push(value)?;
     }
+    Ok(())
 }
 
 // Appends the value of a row's column, if the row is of the group of a key.
@@ -127,11 +127,10 @@ fn push_key(
     ensures { OnOk result (out.new ≡ out.old ++ (if list_any (λ r. same_cells r (projected keys.now row.now)) out.old then [] else projected keys.now row.now ∷ [])) }
 {
     let key = select_row(alloc, keys, row)?;
-    if has_row(out.as_slice(), key.cells()) {
-        Ok(())
-    } else {
-        out.push(key).map_err(|_| OutOfMemory)
+    if !has_row(out.as_slice(), key.cells()) {
+        out.push(key)?;
     }
+    Ok(())
 }
 
 // The keys of the rows, each once, at its first place.
@@ -152,8 +151,7 @@ fn group_keys(alloc: Global, keys: &[usize], rows: &[Tuple]) -> Result<Items<Tup
 {
     if keys.is_empty() {
         let mut out = Items::new(alloc);
-        out.push(Tuple::of(Vec::new(alloc)))
-            .map_err(|_| OutOfMemory)?;
+        out.push(Tuple::of(Vec::new(alloc)))?;
         Ok(out)
     } else {
         distinct_keys(alloc, keys, rows)
@@ -189,7 +187,7 @@ pub fn group_tuples(
     let mut out = Items::new(alloc);
     for key in found.as_slice() {
         match group_row(alloc, keys, agg, rows, key.cells())? {
-            Some(row) => out.push(row).map_err(|_| OutOfMemory)?,
+            Some(row) => out.push(row)?,
             None => return Ok(None),
         }
     }

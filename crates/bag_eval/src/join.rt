@@ -19,8 +19,7 @@ fn push_pairs(
     ensures { OnOk result (out.new ≡ out.old ++ pairs_with rights.now left.now) }
 {
     for right in rights {
-        out.push(pair_of(alloc, left, right.cells())?)
-            .map_err(|_| OutOfMemory)?;
+        out.push(pair_of(alloc, left, right.cells())?)?;
     }
     Ok(())
 }
@@ -53,10 +52,9 @@ fn push_kept_pair(
 {
     let pair = pair_of(alloc, left, right)?;
     if keeps(pred, pair.cells(), constants) {
-        out.push(pair).map_err(|_| OutOfMemory)
-    } else {
-        Ok(())
+        out.push(pair)?;
     }
+    Ok(())
 }
 
 // Appends those of a left row's pairs that the predicate keeps.
@@ -108,11 +106,11 @@ fn push_left(
     let mut pairs = Items::new(alloc);
     push_kept_pairs(alloc, &mut pairs, constants, left, rights, pred)?;
     if pairs.is_empty() {
-        out.push(padded(alloc, left, width)?)
-            .map_err(|_| OutOfMemory)
+        out.push(padded(alloc, left, width)?)?;
     } else {
-        out.append(pairs).map_err(|_| OutOfMemory)
+        out.append(pairs)?;
     }
+    Ok(())
 }
 
 /// Each left row's pairs that a predicate keeps, or, where it has none, the row padded with NULLs for so many right columns.

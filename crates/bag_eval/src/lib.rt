@@ -22,9 +22,4 @@ pub use output::gives_rows;
 pub use select::{first_rows, has_double_selected, select_rows};
 pub use steps::{filter_rows, group_rows, join_rows, left_rows, project, union_rows};
 pub use tree_rows::{answer, node_rows, query_rows, rows};
-pub use union::{append_rows, union_firsts};
-
-#[cfg(test)]
-mod table_tests;
-#[cfg(test)]
-mod tests;
+pub use union::unite_rows;

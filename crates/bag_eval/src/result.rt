@@ -10,17 +10,15 @@ use table_core::{Column, Table, Tuple};
 use value_core::{ColType, OutOfMemory, Word};
 
 // The name of a column: c and its number.
+#[tactic(auto, using(crate::proofs::NameLaws::column_name_is_word))]
 fn column_name(alloc: Global, number: usize) -> Result<Word, OutOfMemory>
     ensures { IfOk result (λ name. name ≡ column_name number) }
 {
-    let Ok(digits) = number.to_string(alloc) else {
-        return Err(OutOfMemory);
-    };
+    let digits = number.to_string(alloc)?;
     let mut text = Vec::new(alloc);
-    text.push(b'c').map_err(|_| OutOfMemory)?;
-    text.extend_from_slice(digits.as_bytes())
-        .map_err(|_| OutOfMemory)?;
-    Word::of(alloc, text.as_slice()).map_err(|_| OutOfMemory)
+    text.push(b'c')?;
+    text.extend_from_slice(digits.as_bytes())?;
+    Word::new(alloc, text.as_slice())
 }
 
 // Columns of these types, numbered from 1.
@@ -30,9 +28,7 @@ fn named_columns(alloc: Global, types: &[ColType]) -> Result<Vec<Column>, OutOfM
     let mut columns = Vec::new(alloc);
     for (at, kind) in types.iter().enumerate() {
         let name = column_name(alloc, at + 1)?;
-        columns
-            .push(Column { name, kind: *kind })
-            .map_err(|_| OutOfMemory)?;
+        columns.push(Column { name, kind: *kind })?;
     }
     Ok(columns)
 }
@@ -45,7 +41,7 @@ fn turned(alloc: Global, rows: Items<Tuple>) -> Result<Vec<Tuple>, OutOfMemory>
     let mut out = Vec::new(alloc);
     for _ in 0..rows.len() {
         if let Some(row) = rows.pop() {
-            out.push(row).map_err(|_| OutOfMemory)?;
+            out.push(row)?;
         }
     }
     Ok(out)
@@ -61,7 +57,7 @@ pub(crate) fn result_table(
     ensures { IfOk result (λ table. table ≡ result_table types.now rows) }
 {
     let columns = named_columns(alloc, types)?;
-    let name = Word::of(alloc, b"q").map_err(|_| OutOfMemory)?;
+    let name = Word::new(alloc, b"q")?;
     let mut tuples = turned(alloc, rows)?;
     tuples.reverse();
     Ok(Table::with_rows(name, columns, tuples))

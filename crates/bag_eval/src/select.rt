@@ -31,9 +31,7 @@ pub(crate) fn select_row(
 {
     let mut cells = Vec::new(alloc);
     for at in picks {
-        cells
-            .push(copy_at(alloc, row, *at)?)
-            .map_err(|_| OutOfMemory)?;
+        cells.push(copy_at(alloc, row, *at)?)?;
     }
     Ok(Tuple::of(cells))
 }
@@ -48,8 +46,7 @@ pub fn select_rows(
 {
     let mut out = Items::new(alloc);
     for row in rows {
-        out.push(select_row(alloc, picks, row.cells())?)
-            .map_err(|_| OutOfMemory)?;
+        out.push(select_row(alloc, picks, row.cells())?)?;
     }
     Ok(out)
 }
@@ -141,11 +138,10 @@ pub(crate) fn push_first(
 ) -> Result<(), OutOfMemory>
     ensures { OnOk result (out.new ≡ out.old ++ (if list_any (λ r. same_cells r row.now) out.old then [] else row.now ∷ [])) }
 {
-    if has_row(out.as_slice(), row.cells()) {
-        Ok(())
-    } else {
-        out.push(row.copy(alloc)?).map_err(|_| OutOfMemory)
+    if !has_row(out.as_slice(), row.cells()) {
+        out.push(row.copy(alloc)?)?;
     }
+    Ok(())
 }
 
 /// Each of these rows once, at its first place.

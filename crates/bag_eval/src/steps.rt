@@ -1,13 +1,13 @@
-ghost use Rattle.std.specs.Prelude.{◌≡◌, ◌++◌, true, filter, map, length, IfOk, if◌then◌else◌};
+ghost use Rattle.std.specs.Prelude.{◌≡◌, ◌++◌, true, filter, map, length, IfOk};
 ghost use Rattle.std.specs.Cmp.Lexicographic.{pointwise};
 ghost use Rattle.value_core.specs.Value.{same_type};
 ghost use Rattle.predicate_core.specs.Truth.{keeps};
 ghost use Rattle.table_core.specs.Rows.{types_of};
-ghost use Rattle.query_core.specs.Firsts.{firsts};
+ghost use Rattle.query_core.specs.Firsts.{united};
 ghost use Rattle.query_core.specs.Joins.{joined, left_joined};
 ghost use Rattle.query_core.specs.Groups.{grouped};
 ghost use Rattle.query_core.specs.Meaning.{type_at, group_types, given_rows};
-ghost use Rattle.bag_eval.specs.Results.{result_table, evaluated};
+ghost use Rattle.bag_eval.specs.Results.{result_table, evaluated, uniting};
 
 use crate::eval::Eval;
 use crate::filter::keep_rows;
@@ -15,9 +15,9 @@ use crate::group::group_tuples;
 use crate::join::{join_pairs, left_join_pairs};
 use crate::result::{evaluated, result_table};
 use crate::select::{first_rows, select_rows};
-use crate::union::{append_rows, union_firsts};
+use crate::union::unite_rows;
 use predicate_core::Pred;
-use query_core::{Agg, group_types, picked_types, table_types};
+use query_core::{Agg, Uniting, group_types, picked_types, table_types};
 use sqlite_items::Items;
 use std::alloc::Global;
 use table_core::{Table, Tuple};
@@ -42,9 +42,7 @@ fn pair_types(alloc: Global, left: &Table, right: &Table) -> Result<Items<ColTyp
     ensures { IfOk result (λ types. types ≡ types_of left.now ++ types_of right.now) }
 {
     let mut types = table_types(alloc, left)?;
-    types
-        .append(table_types(alloc, right)?)
-        .map_err(|_| OutOfMemory)?;
+    types.append(table_types(alloc, right)?)?;
     Ok(types)
 }
 
@@ -94,20 +92,11 @@ pub fn group_rows(
     evaluated(alloc, types.as_slice(), rows)
 }
 
-// The rows of both parts, or each of them once.
-fn united(
-    alloc: Global,
-    lefts: &[Tuple],
-    rights: &[Tuple],
-    all: bool,
-) -> Result<Items<Tuple>, OutOfMemory>
-    ensures { IfOk result (λ rows. rows ≡ (if all then lefts.now ++ rights.now else firsts (lefts.now ++ rights.now))) }
+// How two parts are united.
+fn uniting(all: bool) -> Uniting
+    ensures { result ≡ uniting all }
 {
-    if all {
-        append_rows(alloc, lefts, rights)
-    } else {
-        union_firsts(alloc, lefts, rights)
-    }
+    if all { Uniting::All } else { Uniting::Firsts }
 }
 
 /// The rows of two tables whose columns have equal types: all of them, or each once.
@@ -118,10 +107,10 @@ pub fn union_rows(
     all: bool,
 ) -> Result<Table, OutOfMemory>
     requires { pointwise same_type (types_of left.now) (types_of right.now) ≡ true }
-    ensures { IfOk result (λ table. table ≡ result_table (types_of left.now) (if all then left.now.rows ++ right.now.rows else firsts (left.now.rows ++ right.now.rows))) }
+    ensures { IfOk result (λ table. table ≡ result_table (types_of left.now) (united (uniting all) left.now.rows right.now.rows)) }
 {
     let types = table_types(alloc, left)?;
-    let rows = united(alloc, left.tuples(), right.tuples(), all)?;
+    let rows = unite_rows(alloc, uniting(all), left.tuples(), right.tuples())?;
     result_table(alloc, types.as_slice(), rows)
 }
 

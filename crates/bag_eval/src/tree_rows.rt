@@ -1,9 +1,9 @@
-ghost use Rattle.std.specs.Prelude.{◌≡◌, ◌++◌, true, filter, map, length, option_map, IfOk, Some, None};
+ghost use Rattle.std.specs.Prelude.{◌≡◌, true, filter, map, length, option_map, IfOk, Some, None};
 ghost use Rattle.std.specs.List.{list_all};
 ghost use Rattle.predicate_core.specs.Truth.{keeps};
 ghost use Rattle.table_core.specs.Rows.{are_typed};
 ghost use Rattle.query_core.specs.View.{tree, select};
-ghost use Rattle.query_core.specs.Firsts.{firsts};
+ghost use Rattle.query_core.specs.Firsts.{united};
 ghost use Rattle.query_core.specs.Joins.{joined, left_joined};
 ghost use Rattle.query_core.specs.Groups.{grouped};
 ghost use Rattle.query_core.specs.Columns.{columns_fault};
@@ -16,19 +16,19 @@ use crate::group::group_tuples;
 use crate::join::{join_pairs, left_join_pairs};
 use crate::result::evaluated;
 use crate::steps::given_rows;
-use crate::union::{append_rows, copy_rows, union_firsts};
+use crate::union::{copy_rows, unite_rows};
 use predicate_core::Pred;
-use query_core::{Agg, Node, Query, node_types, picked_types};
+use query_core::{Agg, Node, Query, Uniting, node_types, picked_types};
 use sqlite_items::Items;
 use std::alloc::Global;
-use table_core::{Task, TaskParts, Tuple};
+use table_core::{Table, Task, Tuple};
 use value_core::{OutOfMemory, Value};
 
 // The rows of an input, none where there is no such input.
-fn input_rows(alloc: Global, task: &TaskParts, table: usize) -> Result<Items<Tuple>, OutOfMemory>
-    ensures { IfOk result (λ out. out ≡ (input_at task.now table).rows) }
+fn input_rows(alloc: Global, inputs: &[Table], table: usize) -> Result<Items<Tuple>, OutOfMemory>
+    ensures { IfOk result (λ out. out ≡ (input_at inputs.now table).rows) }
 {
-    match task.inputs.get(table) {
+    match inputs.get(table) {
         Some(input) => copy_rows(alloc, input.tuples()),
         None => Ok(Items::new(alloc)),
     }
@@ -104,92 +104,77 @@ fn grouped(
     }
 }
 
-// All rows of two parts that may not be there.
-fn appended(
-    alloc: Global,
-    lefts: Option<Items<Tuple>>,
-    rights: Option<Items<Tuple>>,
-) -> Result<Option<Items<Tuple>>, OutOfMemory>
-    ensures { IfOk result (λ out. out ≡ of_both (λ xs ys. xs ++ ys) lefts rights) }
-{
-    match (lefts, rights) {
-        (Some(lefts), Some(rights)) => {
-            let rows = append_rows(alloc, lefts.as_slice(), rights.as_slice())?;
-            Ok(Some(rows))
-        }
-        _ => Ok(None),
-    }
-}
-
-// Each row of two parts that may not be there once.
+// The union of two parts that may not be there.
 fn united(
     alloc: Global,
+    kind: Uniting,
     lefts: Option<Items<Tuple>>,
     rights: Option<Items<Tuple>>,
 ) -> Result<Option<Items<Tuple>>, OutOfMemory>
-    ensures { IfOk result (λ out. out ≡ of_both (λ xs ys. firsts (xs ++ ys)) lefts rights) }
+    ensures { IfOk result (λ out. out ≡ of_both (united kind) lefts rights) }
 {
     match (lefts, rights) {
         (Some(lefts), Some(rights)) => {
-            let rows = union_firsts(alloc, lefts.as_slice(), rights.as_slice())?;
+            let rows = unite_rows(alloc, kind, lefts.as_slice(), rights.as_slice())?;
             Ok(Some(rows))
         }
         _ => Ok(None),
     }
 }
 
-/// The rows of a tree in order, or none at all where a sum in it leaves 64 bits.
+/// The rows of a tree over these inputs and constants in order, or none at all where a sum in it leaves 64 bits.
 pub fn node_rows(
     alloc: Global,
-    task: &TaskParts,
+    inputs: &[Table],
+    constants: &[Value],
     node: &Node,
 ) -> Result<Option<Items<Tuple>>, OutOfMemory>
-    ensures { IfOk result (λ out. out ≡ rows task.now (tree node.now)) }
+    ensures { IfOk result (λ out. out ≡ rows inputs.now constants.now (tree node.now)) }
 {
-    let constants = task.constants.as_slice();
     match node {
-        Node::Base(table) => Ok(Some(input_rows(alloc, task, *table as usize)?)),
+        Node::Base(table) => Ok(Some(input_rows(alloc, inputs, *table as usize)?)),
         Node::Filter(child, pred) => {
-            let rows = node_rows(alloc, task, child.get())?;
+            let rows = node_rows(alloc, inputs, constants, child.get())?;
             kept(alloc, constants, rows, pred)
         }
         Node::Join(a, b, pred) => {
-            let lefts = node_rows(alloc, task, a.get())?;
-            let rights = node_rows(alloc, task, b.get())?;
+            let lefts = node_rows(alloc, inputs, constants, a.get())?;
+            let rights = node_rows(alloc, inputs, constants, b.get())?;
             joined(alloc, constants, lefts, rights, pred)
         }
         Node::Left(a, b, pred) => {
-            let lefts = node_rows(alloc, task, a.get())?;
-            let rights = node_rows(alloc, task, b.get())?;
-            let width = node_types(alloc, task, b.get())?.len();
+            let lefts = node_rows(alloc, inputs, constants, a.get())?;
+            let rights = node_rows(alloc, inputs, constants, b.get())?;
+            let width = node_types(alloc, inputs, b.get())?.len();
             left_joined(alloc, constants, width, lefts, rights, pred)
         }
         Node::Group(child, keys, agg) => {
-            let rows = node_rows(alloc, task, child.get())?;
+            let rows = node_rows(alloc, inputs, constants, child.get())?;
             grouped(alloc, rows, keys.as_slice(), agg)
         }
         Node::UnionAll(a, b) => {
-            let lefts = node_rows(alloc, task, a.get())?;
-            let rights = node_rows(alloc, task, b.get())?;
-            appended(alloc, lefts, rights)
+            let lefts = node_rows(alloc, inputs, constants, a.get())?;
+            let rights = node_rows(alloc, inputs, constants, b.get())?;
+            united(alloc, Uniting::All, lefts, rights)
         }
         Node::Union(a, b) => {
-            let lefts = node_rows(alloc, task, a.get())?;
-            let rights = node_rows(alloc, task, b.get())?;
-            united(alloc, lefts, rights)
+            let lefts = node_rows(alloc, inputs, constants, a.get())?;
+            let rights = node_rows(alloc, inputs, constants, b.get())?;
+            united(alloc, Uniting::Firsts, lefts, rights)
         }
     }
 }
 
-/// The rows of a query in order, or none at all where a sum in it leaves 64 bits.
+/// The rows of a query over these inputs and constants in order, or none at all where a sum in it leaves 64 bits.
 pub fn query_rows(
     alloc: Global,
-    task: &TaskParts,
+    inputs: &[Table],
+    constants: &[Value],
     query: &Query,
 ) -> Result<Option<Items<Tuple>>, OutOfMemory>
-    ensures { IfOk result (λ out. out ≡ answer task.now (select query.now)) }
+    ensures { IfOk result (λ out. out ≡ answer inputs.now constants.now (select query.now)) }
 {
-    match node_rows(alloc, task, &query.body)? {
+    match node_rows(alloc, inputs, constants, &query.body)? {
         Some(body) => {
             let picks = query.map.as_slice();
             let rows = given_rows(alloc, picks, query.distinct, body.as_slice())?;
@@ -200,10 +185,10 @@ pub fn query_rows(
 }
 
 // The rows of each input fit its columns, as those of any table do.
-fn inputs_fit(task: &TaskParts)
-    ensures { list_all (λ t. are_typed t.columns t.rows) task.now.inputs ≡ true }
+fn inputs_fit(inputs: &[Table])
+    ensures { list_all (λ t. are_typed t.columns t.rows) inputs.now ≡ true }
 {
-    for input in task.inputs.as_slice() {
+    for input in inputs {
         let _rows = input.tuples();
     }
 }
@@ -211,24 +196,26 @@ fn inputs_fit(task: &TaskParts)
 /// What a tree gives, in which nothing is wrong.
 pub fn rows(alloc: Global, task: &Task, node: &Node) -> Result<Eval, OutOfMemory>
     requires { columns_fault task.now (tree node.now) ≡ None }
-    ensures { IfOk result (λ eval. eval ≡ evaluated (columns task.now (tree node.now)) (rows task.now (tree node.now))) }
+    ensures { IfOk result (λ eval. eval ≡ evaluated (columns task.now.inputs (tree node.now)) (rows task.now.inputs task.now.constants (tree node.now))) }
 {
     let task = task.parts();
-    inputs_fit(task);
-    let types = node_types(alloc, task, node)?;
-    let rows = node_rows(alloc, task, node)?;
+    let inputs = task.inputs.as_slice();
+    inputs_fit(inputs);
+    let types = node_types(alloc, inputs, node)?;
+    let rows = node_rows(alloc, inputs, task.constants.as_slice(), node)?;
     evaluated(alloc, types.as_slice(), rows)
 }
 
 /// What a query gives, in whose body nothing is wrong.
 pub fn answer(alloc: Global, task: &Task, query: &Query) -> Result<Eval, OutOfMemory>
     requires { columns_fault task.now (tree query.now.body) ≡ None }
-    ensures { IfOk result (λ eval. eval ≡ evaluated (map (type_at (columns task.now (tree query.now.body))) query.now.map) (answer task.now (select query.now))) }
+    ensures { IfOk result (λ eval. eval ≡ evaluated (map (type_at (columns task.now.inputs (tree query.now.body))) query.now.map) (answer task.now.inputs task.now.constants (select query.now))) }
 {
     let task = task.parts();
-    inputs_fit(task);
-    let types = node_types(alloc, task, &query.body)?;
+    let inputs = task.inputs.as_slice();
+    inputs_fit(inputs);
+    let types = node_types(alloc, inputs, &query.body)?;
     let types = picked_types(alloc, types.as_slice(), query.map.as_slice())?;
-    let rows = query_rows(alloc, task, query)?;
+    let rows = query_rows(alloc, inputs, task.constants.as_slice(), query)?;
     evaluated(alloc, types.as_slice(), rows)
 }

@@ -1,8 +1,9 @@
 ghost use Rattle.std.specs.Prelude.{◌≡◌, ◌++◌, List, IfOk, OnOk};
 ghost use Rattle.table_core.specs.Rows.{Row};
-ghost use Rattle.query_core.specs.Firsts.{firsts};
+ghost use Rattle.query_core.specs.Firsts.{firsts, united};
 
 use crate::select::push_first;
+use query_core::Uniting;
 use sqlite_items::Items;
 use std::alloc::Global;
 use table_core::Tuple;
@@ -13,7 +14,7 @@ fn push_rows(alloc: Global, out: &mut Items<Tuple>, rows: &[Tuple]) -> Result<()
     ensures { OnOk result (out.new ≡ out.old ++ rows.now) }
 {
     for row in rows {
-        out.push(row.copy(alloc)?).map_err(|_| OutOfMemory)?;
+        out.push(row.copy(alloc)?)?;
     }
     Ok(())
 }
@@ -27,8 +28,8 @@ pub(crate) fn copy_rows(alloc: Global, rows: &[Tuple]) -> Result<Items<Tuple>, O
     Ok(out)
 }
 
-/// The left rows, and then the right rows.
-pub fn append_rows(
+// The left rows, and then the right rows.
+fn append_rows(
     alloc: Global,
     lefts: &[Tuple],
     rights: &[Tuple],
@@ -52,8 +53,8 @@ fn push_firsts(alloc: Global, out: &mut Items<Tuple>, rows: &[Tuple]) -> Result<
     Ok(())
 }
 
-/// Each row of the left and the right rows once, at its first place.
-pub fn union_firsts(
+// Each row of the left and the right rows once, at its first place.
+fn union_firsts(
     alloc: Global,
     lefts: &[Tuple],
     rights: &[Tuple],
@@ -64,4 +65,19 @@ pub fn union_firsts(
     push_firsts(alloc, &mut out, lefts)?;
     push_firsts(alloc, &mut out, rights)?;
     Ok(out)
+}
+
+/// The rows of two parts together: every copy, or each row once.
+pub fn unite_rows(
+    alloc: Global,
+    kind: Uniting,
+    lefts: &[Tuple],
+    rights: &[Tuple],
+) -> Result<Items<Tuple>, OutOfMemory>
+    ensures { IfOk result (λ out. out ≡ united kind lefts.now rights.now) }
+{
+    match kind {
+        Uniting::All => append_rows(alloc, lefts, rights),
+        Uniting::Firsts => union_firsts(alloc, lefts, rights),
+    }
 }

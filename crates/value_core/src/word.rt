@@ -37,6 +37,15 @@ pub enum WordFault {
 }
 
 impl Word {
+    /// A copy of these bytes, of which there are 1 to 64.
+    pub fn new(alloc: Global, from: &[u8]) -> Result<Word, OutOfMemory>
+        requires { IsWord from.now }
+        ensures { IfOk result (λ w. w ≡ from.now) }
+    {
+        let items = Vec::from_slice(alloc, from)?;
+        Ok(Word { items })
+    }
+
     /// A copy of these bytes, where there are 1 to 64.
     pub fn of(alloc: Global, from: &[u8]) -> Result<Word, WordFault>
         ensures ok { IfOk result (λ w. (w ≡ from.now) × IsWord w) }
@@ -63,7 +72,6 @@ impl Word {
     pub fn copy(&self, alloc: Global) -> Result<Word, OutOfMemory>
         ensures { IfOk result (λ w. w ≡ self.now) }
     {
-        let items = Vec::from_slice(alloc, self.items.as_slice())?;
-        Ok(Word { items })
+        Word::new(alloc, self.as_slice())
     }
 }

@@ -4,6 +4,6 @@ use Rattle.bag_eval.proofs.tree_rows.rows.Goals as goal
 
 pub evaluated-requires : goal.evaluated-requires
 evaluated-requires c =
-    let typed = rw (c.parts-task.ensures.parts) at c.inputs_fit.ensures in
+    let typed = rw (c.as_slice-inputs.ensures, c.parts-task.ensures.parts) at c.inputs_fit.ensures in
     let fit = rows_fit_columns c.args.task.now (tree c.args.node.now) typed c.requires in
-    rw (c.as_slice.ensures, c.in_ok-types.ensures, c.in_ok-rows.ensures, c.parts-task.ensures.parts) fit
+    rw (c.as_slice-2.ensures, c.in_ok-types.ensures, c.in_ok-rows.ensures, c.as_slice.ensures, c.as_slice-inputs.ensures, c.parts-task.ensures.parts) fit
