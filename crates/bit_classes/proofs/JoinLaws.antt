@@ -3,7 +3,7 @@ use Rattle.std.proofs.Common.{◌≡◌, refl, sym, ap, ◌∙◌, ℕ, Bool, tr
 use lib.Lanes.{zip2}
 use Rattle.bit_classes.specs.declared.join.Join.{Join}
 use Rattle.bit_classes.specs.declared.join.Join.TheVariants.{And, Or}
-use Rattle.bit_classes.specs.Vectors.{joined}
+use Rattle.bit_classes.specs.Vectors.{combined}
 
 module _ {X : Type 0} (f : X → X → X) where
   turned-zip2 : ((x y : X) → f x y ≡ f y x) → (xs ys : List X) → zip2 f xs ys ≡ zip2 f ys xs
@@ -50,29 +50,29 @@ or_own : (x : Bool) → (x || x) ≡ x
 or_own true = refl
 or_own false = refl
 
-pub joined_turned : (join : Join) (xs ys : List Bool) → joined join xs ys ≡ joined join ys xs
+pub joined_turned : (join : Join) (xs ys : List Bool) → combined join xs ys ≡ combined join ys xs
 joined_turned And xs ys = turned-zip2 (λ x y. x && y) and_turned xs ys
 joined_turned Or xs ys = turned-zip2 (λ x y. x || y) or_turned xs ys
 
-pub joined_grouped : (join : Join) (xs ys zs : List Bool) → joined join (joined join xs ys) zs ≡ joined join xs (joined join ys zs)
+pub joined_grouped : (join : Join) (xs ys zs : List Bool) → combined join (combined join xs ys) zs ≡ combined join xs (combined join ys zs)
 joined_grouped And xs ys zs = grouped-zip2 (λ x y. x && y) and_grouped xs ys zs
 joined_grouped Or xs ys zs = grouped-zip2 (λ x y. x || y) or_grouped xs ys zs
 
-pub joined_own : (join : Join) (xs : List Bool) → joined join xs xs ≡ xs
+pub joined_own : (join : Join) (xs : List Bool) → combined join xs xs ≡ xs
 joined_own And xs = own-zip2 (λ x y. x && y) and_own xs
 joined_own Or xs = own-zip2 (λ x y. x || y) or_own xs
 
 -- the full vector with another
-full_and : (xs : List Bool) → joined And (replicate (length xs) true) xs ≡ xs
+full_and : (xs : List Bool) → combined And (replicate (length xs) true) xs ≡ xs
 full_and [] = refl
 full_and (x ∷ xs) = ap (λ t. x ∷ t) (full_and xs)
 
-full_or : (xs : List Bool) → joined Or (replicate (length xs) true) xs ≡ replicate (length xs) true
+full_or : (xs : List Bool) → combined Or (replicate (length xs) true) xs ≡ replicate (length xs) true
 full_or [] = refl
 full_or (x ∷ xs) = ap (λ t. true ∷ t) (full_or xs)
 
-pub full_and_is : (width : ℕ) (xs : List Bool) → length xs ≡ width → joined And (replicate width true) xs ≡ xs
-full_and_is width xs wide = ap (λ w. joined And (replicate w true) xs) (sym wide) ∙ full_and xs
+pub full_and_is : (width : ℕ) (xs : List Bool) → length xs ≡ width → combined And (replicate width true) xs ≡ xs
+full_and_is width xs wide = ap (λ w. combined And (replicate w true) xs) (sym wide) ∙ full_and xs
 
-pub full_or_is : (width : ℕ) (xs : List Bool) → length xs ≡ width → joined Or (replicate width true) xs ≡ replicate width true
-full_or_is width xs wide = ap (λ w. joined Or (replicate w true) xs) (sym wide) ∙ full_or xs ∙ ap (λ w. replicate w true) wide
+pub full_or_is : (width : ℕ) (xs : List Bool) → length xs ≡ width → combined Or (replicate width true) xs ≡ replicate width true
+full_or_is width xs wide = ap (λ w. combined Or (replicate w true) xs) (sym wide) ∙ full_or xs ∙ ap (λ w. replicate w true) wide

@@ -12,7 +12,7 @@ use Rattle.predicate_core.proofs.KeepsLaws.{keeps_by_atoms}
 use Rattle.bit_rows.specs.Bits.{and_bits, or_bits}
 use Rattle.bit_classes.specs.declared.join.Join.{Join}
 use Rattle.bit_classes.specs.declared.join.Join.TheVariants.{And, Or}
-use Rattle.bit_classes.specs.Vectors.{joined, joined_pairs, joined_triples, more_vectors, vectors}
+use Rattle.bit_classes.specs.Vectors.{combined, joined_pairs, joined_triples, more_vectors, vectors}
 use Rattle.bit_classes.specs.Laws.{kept_vector, VectorsOfPreds}
 use Rattle.bit_classes.proofs.SplitLaws.{map-map}
 
@@ -59,17 +59,17 @@ module _ (constants : List Value) (candidates : List (List Value)) where
   always_vector [] = refl
   always_vector (row ∷ rows) = ap (λ t. true ∷ t) (always_vector rows)
 
-  and2_vector : (a b : Atom) → kept_vector constants candidates (And2 a b) ≡ joined And (atom_vector a) (atom_vector b)
+  and2_vector : (a b : Atom) → kept_vector constants candidates (And2 a b) ≡ combined And (atom_vector a) (atom_vector b)
   and2_vector a b =
       ap (λ f. map f candidates) (λ i row. (keeps_by_atoms constants row a b b).1 i)
       ∙ sym (zip2-map (λ x y. x && y) (λ row. keeps constants (One a) row) (λ row. keeps constants (One b) row) candidates)
 
-  or2_vector : (a b : Atom) → kept_vector constants candidates (Or2 a b) ≡ joined Or (atom_vector a) (atom_vector b)
+  or2_vector : (a b : Atom) → kept_vector constants candidates (Or2 a b) ≡ combined Or (atom_vector a) (atom_vector b)
   or2_vector a b =
       ap (λ f. map f candidates) (λ i row. (keeps_by_atoms constants row a b b).2 i)
       ∙ sym (zip2-map (λ x y. x || y) (λ row. keeps constants (One a) row) (λ row. keeps constants (One b) row) candidates)
 
-  and3_vector : (a b c : Atom) → kept_vector constants candidates (And3 a b c) ≡ joined And (joined And (atom_vector a) (atom_vector b)) (atom_vector c)
+  and3_vector : (a b c : Atom) → kept_vector constants candidates (And3 a b c) ≡ combined And (combined And (atom_vector a) (atom_vector b)) (atom_vector c)
   and3_vector a b c =
       let by_a : List Value → Bool = λ row. keeps constants (One a) row in
       let by_b : List Value → Bool = λ row. keeps constants (One b) row in
@@ -79,7 +79,7 @@ module _ (constants : List Value) (candidates : List (List Value)) where
       ∙ sym (zip2-map (λ x y. x && y) (λ row. by_a row && by_b row) by_c candidates)
       ∙ ap (λ v. and_bits v (map by_c candidates)) (sym (zip2-map (λ x y. x && y) by_a by_b candidates))
 
-  or3_vector : (a b c : Atom) → kept_vector constants candidates (Or3 a b c) ≡ joined Or (joined Or (atom_vector a) (atom_vector b)) (atom_vector c)
+  or3_vector : (a b c : Atom) → kept_vector constants candidates (Or3 a b c) ≡ combined Or (combined Or (atom_vector a) (atom_vector b)) (atom_vector c)
   or3_vector a b c =
       let by_a : List Value → Bool = λ row. keeps constants (One a) row in
       let by_b : List Value → Bool = λ row. keeps constants (One b) row in
@@ -91,23 +91,23 @@ module _ (constants : List Value) (candidates : List (List Value)) where
 
   -- ---- the vectors of a list of predicates
 
-  pairs_vectors : (join : Join) (pred : Atom → Atom → Pred) → ((a b : Atom) → kept_vector constants candidates (pred a b) ≡ joined join (atom_vector a) (atom_vector b))
+  pairs_vectors : (join : Join) (pred : Atom → Atom → Pred) → ((a b : Atom) → kept_vector constants candidates (pred a b) ≡ combined join (atom_vector a) (atom_vector b))
       → (atoms : List Atom) → map (kept_vector constants candidates) (map (λ p. pred p.0 p.1) (pairs atoms)) ≡ joined_pairs join (map atom_vector atoms)
   pairs_vectors join pred each atoms =
       let of : Atom × Atom → Pred = λ p. pred p.0 p.1 in
       let parts : Atom × Atom → List Bool × List Bool = λ p. (atom_vector p.0, atom_vector p.1) in
-      let joins : List Bool × List Bool → List Bool = λ p. joined join p.0 p.1 in
+      let joins : List Bool × List Bool → List Bool = λ p. combined join p.0 p.1 in
       map-map (kept_vector constants candidates) of (pairs atoms)
       ∙ ap (λ f. map f (pairs atoms)) (λ i p. each p.0 p.1 i)
       ∙ sym (map-map joins parts (pairs atoms))
       ∙ ap (map joins) (sym (pairs-map atom_vector atoms))
 
-  triples_vectors : (join : Join) (pred : Atom → Atom → Atom → Pred) → ((a b c : Atom) → kept_vector constants candidates (pred a b c) ≡ joined join (joined join (atom_vector a) (atom_vector b)) (atom_vector c))
+  triples_vectors : (join : Join) (pred : Atom → Atom → Atom → Pred) → ((a b c : Atom) → kept_vector constants candidates (pred a b c) ≡ combined join (combined join (atom_vector a) (atom_vector b)) (atom_vector c))
       → (atoms : List Atom) → map (kept_vector constants candidates) (map (λ t. pred t.0 t.1 t.2) (triples atoms)) ≡ joined_triples join (map atom_vector atoms)
   triples_vectors join pred each atoms =
       let of : Atom × Atom × Atom → Pred = λ t. pred t.0 t.1 t.2 in
       let parts : Atom × Atom × Atom → List Bool × List Bool × List Bool = λ t. (atom_vector t.0, atom_vector t.1, atom_vector t.2) in
-      let joins : List Bool × List Bool × List Bool → List Bool = λ t. joined join (joined join t.0 t.1) t.2 in
+      let joins : List Bool × List Bool × List Bool → List Bool = λ t. combined join (combined join t.0 t.1) t.2 in
       map-map (kept_vector constants candidates) of (triples atoms)
       ∙ ap (λ f. map f (triples atoms)) (λ i t. each t.0 t.1 t.2 i)
       ∙ sym (map-map joins parts (triples atoms))

@@ -9,7 +9,7 @@ use Rattle.predicate_core.specs.Counts.{pair_count}
 use Rattle.bit_classes.specs.declared.join.Join.{Join}
 use Rattle.bit_classes.specs.declared.join.Join.TheVariants.{And, Or}
 use Rattle.bit_classes.specs.declared.class.Class.{Class}
-use Rattle.bit_classes.specs.Vectors.{joined}
+use Rattle.bit_classes.specs.Vectors.{combined}
 use Rattle.bit_classes.specs.Walk.{HasWidth, joined_told, is_known, with_vector, numbered, new_vectors, if_new, with_told, told_under, classes_under, told_triples}
 
 pub add_more : (n i : ℕ) → n + i + 1 ≡ n + (i + 1)
@@ -36,7 +36,7 @@ pub new_end : (classes : List Class) (rows : List (List Bool)) (n i : ℕ) → l
 new_end classes rows n i past = ap (new_vectors classes n) (drop_all i rows past)
 
 -- vectors of one length keep it
-pub joined_length : (join : Join) (xs ys : List Bool) → length xs ≡ length ys → length (joined join xs ys) ≡ length xs
+pub joined_length : (join : Join) (xs ys : List Bool) → length xs ≡ length ys → length (combined join xs ys) ≡ length xs
 joined_length And xs ys same = length-zip2 (λ x y. x && y) xs ys same
 joined_length Or xs ys same = length-zip2 (λ x y. x || y) xs ys same
 

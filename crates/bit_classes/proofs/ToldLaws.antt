@@ -11,7 +11,7 @@ use Rattle.bit_classes.specs.declared.class.Class.{Class}
 use Rattle.bit_classes.specs.declared.class.ClassEnd.{ClassEnd}
 use Rattle.bit_classes.specs.declared.join.Join.{Join}
 use Rattle.bit_classes.specs.declared.join.Join.TheVariants.{And, Or}
-use Rattle.bit_classes.specs.Vectors.{joined, joined_pairs, joined_triples, more_vectors}
+use Rattle.bit_classes.specs.Vectors.{combined, joined_pairs, joined_triples, more_vectors}
 use Rattle.bit_classes.specs.Walk.{Walk, Sees, HasWidth, is_known, with_vector, with_vectors, numbered, new_vectors, joined_told, told_pairs, told_triples, told_more}
 use Rattle.bit_classes.proofs.WalkLaws.{known_stays}
 use Rattle.bit_classes.proofs.ThinLaws.{Thin, thin_wider, thin_append, thin_length, thin_pairs, in_front, in_back, in_mapped, two_in}
@@ -60,7 +60,7 @@ thin_widths width K (u ∷ us) (v ∷ vs) t wide =
 
 -- ---- two atoms and three
 
-told_some : (join : Join) (x y : List Bool) → joined_told join (Some x) (Some y) ≡ Some (joined join x y)
+told_some : (join : Join) (x y : List Bool) → joined_told join (Some x) (Some y) ≡ Some (combined join x y)
 told_some join x y = refl
 
 module _ (width : ℕ) (K : List Bool → Type 0) (ms : List (Option (List Bool))) (rows : List (List Bool))
@@ -69,37 +69,37 @@ module _ (width : ℕ) (K : List Bool → Type 0) (ms : List (Option (List Bool)
   abbrev full : List Bool
   full = replicate width true
 
-  full_known : (join : Join) (y z : List Bool) → y ≡ full → (z ≡ full) ⊎ In z rows → K (joined join y z)
-  full_known And y z e among = subst K (sym (ap (λ w. joined And w z) e ∙ full_and_is width z (wide z among))) (known z among)
-  full_known Or y z e among = subst K (sym (ap (λ w. joined Or w z) e ∙ full_or_is width z (wide z among))) (known full (inl refl))
+  full_known : (join : Join) (y z : List Bool) → y ≡ full → (z ≡ full) ⊎ In z rows → K (combined join y z)
+  full_known And y z e among = subst K (sym (ap (λ w. combined And w z) e ∙ full_and_is width z (wide z among))) (known z among)
+  full_known Or y z e among = subst K (sym (ap (λ w. combined Or w z) e ∙ full_or_is width z (wide z among))) (known full (inl refl))
 
   two_thin : (join : Join) → Thin K (told_pairs join ms) (joined_pairs join rows)
   two_thin join =
-      thin_pairs (joined join) (joined_told join) (told_some join) (λ y. refl) (λ x. refl) (joined_turned join) (λ w. w ≡ full) K ms rows thin
+      thin_pairs (combined join) (joined_told join) (told_some join) (λ y. refl) (λ x. refl) (joined_turned join) (λ w. w ≡ full) K ms rows thin
       (λ z among. subst K (sym (joined_own join z)) (known z among)) (λ y z e among. full_known join y z e among)
 
   -- what is known once the pairs are
   abbrev Known2 : (List Bool → Type 0) → Join → Type 0
   Known2 L join = (w : List Bool) → K w ⊎ In w (joined_pairs join rows) → L w
 
-  pair_known : (L : List Bool → Type 0) (join : Join) → Known2 L join → (y z : List Bool) → (y ≡ full) ⊎ In y rows → (z ≡ full) ⊎ In z rows → L (joined join y z)
-  pair_known L join two y z (inl e) among = two (joined join y z) (inl (full_known join y z e among))
-  pair_known L join two y z (inr i) (inl e) = subst L (joined_turned join z y) (two (joined join z y) (inl (full_known join z y e (inr i))))
+  pair_known : (L : List Bool → Type 0) (join : Join) → Known2 L join → (y z : List Bool) → (y ≡ full) ⊎ In y rows → (z ≡ full) ⊎ In z rows → L (combined join y z)
+  pair_known L join two y z (inl e) among = two (combined join y z) (inl (full_known join y z e among))
+  pair_known L join two y z (inr i) (inl e) = subst L (joined_turned join z y) (two (combined join z y) (inl (full_known join z y e (inr i))))
   pair_known L join two y z (inr i) (inr j) =
-      let f : List Bool × List Bool → List Bool = λ p. joined join p.0 p.1 in
+      let f : List Bool × List Bool → List Bool = λ p. combined join p.0 p.1 in
       elim (two_in y z rows i j) [
-        | inl e ↦ subst (λ w. L (joined join y w)) e (subst L (sym (joined_own join y)) (two y (inl (known y (inr i)))))
+        | inl e ↦ subst (λ w. L (combined join y w)) e (subst L (sym (joined_own join y)) (two y (inl (known y (inr i)))))
         | inr k ↦ elim k [
-          | inl a ↦ two (joined join y z) (inr (in_mapped f (y, z) (pairs rows) a))
-          | inr b ↦ two (joined join y z) (inr (in_same (joined join y z) (joined join z y) (map f (pairs rows)) (joined_turned join y z) (in_mapped f (z, y) (pairs rows) b)))
+          | inl a ↦ two (combined join y z) (inr (in_mapped f (y, z) (pairs rows) a))
+          | inr b ↦ two (combined join y z) (inr (in_same (combined join y z) (combined join z y) (map f (pairs rows)) (joined_turned join y z) (in_mapped f (z, y) (pairs rows) b)))
         ]
       ]
 
-  full_first : (L : List Bool → Type 0) (join : Join) → Known2 L join → (a y z : List Bool) → a ≡ full → (y ≡ full) ⊎ In y rows → (z ≡ full) ⊎ In z rows → L (joined join (joined join a y) z)
+  full_first : (L : List Bool → Type 0) (join : Join) → Known2 L join → (a y z : List Bool) → a ≡ full → (y ≡ full) ⊎ In y rows → (z ≡ full) ⊎ In z rows → L (combined join (combined join a y) z)
   full_first L And two a y z e among_y among_z =
-      subst L (sym (ap (λ w. joined And w z) (ap (λ w. joined And w y) e ∙ full_and_is width y (wide y among_y)))) (pair_known L And two y z among_y among_z)
+      subst L (sym (ap (λ w. combined And w z) (ap (λ w. combined And w y) e ∙ full_and_is width y (wide y among_y)))) (pair_known L And two y z among_y among_z)
   full_first L Or two a y z e among_y among_z =
-      subst L (sym (ap (λ w. joined Or w z) (ap (λ w. joined Or w y) e ∙ full_or_is width y (wide y among_y)))) (pair_known L Or two full z (inl refl) among_z)
+      subst L (sym (ap (λ w. combined Or w z) (ap (λ w. combined Or w y) e ∙ full_or_is width y (wide y among_y)))) (pair_known L Or two full z (inl refl) among_z)
 
   three_thin : (L : List Bool → Type 0) (join : Join) → Known2 L join → Thin L (told_triples join [] ms) (joined_triples join rows)
   three_thin L join two =

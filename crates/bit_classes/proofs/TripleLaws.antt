@@ -9,7 +9,7 @@ use Rattle.predicate_core.proofs.NumberLaws.{length-pairs}
 use Rattle.predicate_core.proofs.OnceLists.{In, in_same, in_pairs}
 use Rattle.bit_classes.specs.declared.class.Class.{Class}
 use Rattle.bit_classes.specs.declared.join.Join.{Join}
-use Rattle.bit_classes.specs.Vectors.{joined, joined_triples}
+use Rattle.bit_classes.specs.Vectors.{combined, joined_triples}
 use Rattle.bit_classes.specs.Walk.{is_known, joined_told, if_new, with_told, told_under, classes_under, told_triples}
 use Rattle.bit_classes.proofs.KnownLaws.{known_before}
 use Rattle.bit_classes.proofs.JoinLaws.{joined_turned, joined_grouped, joined_own}
@@ -20,18 +20,18 @@ abbrev Vector : Type 0
 Vector = List Bool
 
 module _ (join : Join) where
-  -- three vectors joined, in another order or with one twice
-  last_turned : (x y z : Vector) → joined join (joined join x y) z ≡ joined join (joined join x z) y
-  last_turned x y z = joined_grouped join x y z ∙ ap (joined join x) (joined_turned join y z) ∙ sym (joined_grouped join x z y)
+  -- three vectors combined, in another order or with one twice
+  last_turned : (x y z : Vector) → combined join (combined join x y) z ≡ combined join (combined join x z) y
+  last_turned x y z = joined_grouped join x y z ∙ ap (combined join x) (joined_turned join y z) ∙ sym (joined_grouped join x z y)
 
-  first_turned : (x y z : Vector) → joined join (joined join x y) z ≡ joined join (joined join y x) z
-  first_turned x y z = ap (λ v. joined join v z) (joined_turned join x y)
+  first_turned : (x y z : Vector) → combined join (combined join x y) z ≡ combined join (combined join y x) z
+  first_turned x y z = ap (λ v. combined join v z) (joined_turned join x y)
 
-  last_own : (x y : Vector) → joined join (joined join x y) y ≡ joined join x y
-  last_own x y = joined_grouped join x y y ∙ ap (joined join x) (joined_own join y)
+  last_own : (x y : Vector) → combined join (combined join x y) y ≡ combined join x y
+  last_own x y = joined_grouped join x y y ∙ ap (combined join x) (joined_own join y)
 
-  first_own : (x y : Vector) → joined join (joined join x x) y ≡ joined join x y
-  first_own x y = ap (λ v. joined join v y) (joined_own join x)
+  first_own : (x y : Vector) → combined join (combined join x x) y ≡ combined join x y
+  first_own x y = ap (λ v. combined join v y) (joined_own join x)
 
   -- ---- what a first vector gives with all others
 
@@ -41,45 +41,45 @@ module _ (join : Join) where
   shift B x z xs (inr i) = inr (inr i)
 
   module _ (B K : Vector → Type 0) (x : Vector) (xs : List Vector)
-      (two : (y z : Vector) → B y ⊎ In y (x ∷ xs) → B z ⊎ In z (x ∷ xs) → K (joined join y z))
-      (before : (a y z : Vector) → B a → B y ⊎ In y (x ∷ xs) → B z ⊎ In z (x ∷ xs) → K (joined join (joined join a y) z)) where
-    own_under : (z : Vector) → (B z ⊎ (z ≡ x)) ⊎ In z xs → K (joined join (joined join x z) z)
+      (two : (y z : Vector) → B y ⊎ In y (x ∷ xs) → B z ⊎ In z (x ∷ xs) → K (combined join y z))
+      (before : (a y z : Vector) → B a → B y ⊎ In y (x ∷ xs) → B z ⊎ In z (x ∷ xs) → K (combined join (combined join a y) z)) where
+    own_under : (z : Vector) → (B z ⊎ (z ≡ x)) ⊎ In z xs → K (combined join (combined join x z) z)
     own_under z among = subst K (sym (last_own x z)) (two x z (inr (inl refl)) (shift B x z xs among))
 
-    before_under : (y z : Vector) → B y ⊎ (y ≡ x) → (B z ⊎ (z ≡ x)) ⊎ In z xs → K (joined join (joined join x y) z)
+    before_under : (y z : Vector) → B y ⊎ (y ≡ x) → (B z ⊎ (z ≡ x)) ⊎ In z xs → K (combined join (combined join x y) z)
     before_under y z (inl b) among = subst K (first_turned y x z) (before y x z b (inr (inl refl)) (shift B x z xs among))
     before_under y z (inr e) among =
-        let at_x : K (joined join (joined join x x) z) = subst K (sym (first_own x z)) (two x z (inr (inl refl)) (shift B x z xs among)) in
-        subst (λ w. K (joined join (joined join x w) z)) (sym e) at_x
+        let at_x : K (combined join (combined join x x) z) = subst K (sym (first_own x z)) (two x z (inr (inl refl)) (shift B x z xs among)) in
+        subst (λ w. K (combined join (combined join x w) z)) (sym e) at_x
 
     under_x : (y z : Vector) → (B y ⊎ (y ≡ x)) ⊎ In y xs → (B z ⊎ (z ≡ x)) ⊎ In z xs
-        → K (joined join (joined join x y) z) ⊎ In (joined join (joined join x y) z) (map (λ p. joined join (joined join x p.0) p.1) (pairs xs))
+        → K (combined join (combined join x y) z) ⊎ In (combined join (combined join x y) z) (map (λ p. combined join (combined join x p.0) p.1) (pairs xs))
     under_x y z (inl b) among = inl (before_under y z b among)
     under_x y z (inr i) (inl b) = inl (subst K (last_turned x z y) (before_under z y b (inr i)))
     under_x y z (inr i) (inr j) =
-        let f : Vector × Vector → Vector = λ p. joined join (joined join x p.0) p.1 in
+        let f : Vector × Vector → Vector = λ p. combined join (combined join x p.0) p.1 in
         elim (two_in y z xs i j) [
-          | inl e ↦ inl (subst (λ w. K (joined join (joined join x y) w)) e (own_under y (inr i)))
+          | inl e ↦ inl (subst (λ w. K (combined join (combined join x y) w)) e (own_under y (inr i)))
           | inr k ↦ elim k [
             | inl a ↦ inr (in_mapped f (y, z) (pairs xs) a)
-            | inr b ↦ inr (in_same (joined join (joined join x y) z) (joined join (joined join x z) y) (map f (pairs xs)) (last_turned x y z) (in_mapped f (z, y) (pairs xs) b))
+            | inr b ↦ inr (in_same (combined join (combined join x y) z) (combined join (combined join x z) y) (map f (pairs xs)) (last_turned x y z) (in_mapped f (z, y) (pairs xs) b))
           ]
         ]
 
     before_three : (a y z : Vector) → B a ⊎ (a ≡ x) → (B y ⊎ (y ≡ x)) ⊎ In y xs → (B z ⊎ (z ≡ x)) ⊎ In z xs
-        → K (joined join (joined join a y) z) ⊎ In (joined join (joined join a y) z) (map (λ p. joined join (joined join x p.0) p.1) (pairs xs))
+        → K (combined join (combined join a y) z) ⊎ In (combined join (combined join a y) z) (map (λ p. combined join (combined join x p.0) p.1) (pairs xs))
     before_three a y z (inl b) among_y among_z = inl (before a y z b (shift B x y xs among_y) (shift B x z xs among_z))
     before_three a y z (inr e) among_y among_z =
-        let P : Vector → Type 0 = λ w. K (joined join (joined join w y) z) ⊎ In (joined join (joined join w y) z) (map (λ p. joined join (joined join x p.0) p.1) (pairs xs)) in
+        let P : Vector → Type 0 = λ w. K (combined join (combined join w y) z) ⊎ In (combined join (combined join w y) z) (map (λ p. combined join (combined join x p.0) p.1) (pairs xs)) in
         subst P (sym e) (under_x y z among_y among_z)
 
-  -- ---- the classes of two vectors joined
+  -- ---- the classes of two vectors combined
 
   class_before : (classes : List Class) (told : Option Vector) (c : Vector) → is_known (with_told classes told) c ≡ true → (is_known classes c ≡ true) ⊎ (told ≡ Some c)
   class_before classes None c known = inl known
   class_before classes (Some v) c known = elim (known_before classes 0 v c known) [ inl a ↦ inl a | inr e ↦ inr (ap (λ w. Some w) (sym e)) ]
 
-  -- a class was there before, or is the first vector joined with one that is told
+  -- a class was there before, or is the first vector combined with one that is told
   class_from : (classes : List Class) (first : Option Vector) (ms : List (Option Vector)) (c : Vector) → is_known (classes_under join classes first ms) c ≡ true
       → (is_known classes c ≡ true) ⊎ ((u : Option Vector) × In u ms × (joined_told join first u ≡ Some c))
   class_from classes first [] c known = inl known
@@ -90,11 +90,11 @@ module _ (join : Join) where
         | inr u ↦ inr (u.0, inr u.1, u.2)
       ]
 
-  -- what is told of two vectors joined
-  joined_from : (B : Vector → Type 0) (x c : Vector) (m u : Option Vector) → (m ≡ Some x) ⊎ ((m ≡ None) × B x) → joined_told join m u ≡ Some c → (y : Vector) × (u ≡ Some y) × (c ≡ joined join x y)
+  -- what is told of two vectors combined
+  joined_from : (B : Vector → Type 0) (x c : Vector) (m u : Option Vector) → (m ≡ Some x) ⊎ ((m ≡ None) × B x) → joined_told join m u ≡ Some c → (y : Vector) × (u ≡ Some y) × (c ≡ combined join x y)
   joined_from B x c m u (inr none) e = absurd (none-some c (sym (ap (λ w. joined_told join w u) none.0) ∙ e))
   joined_from B x c m None (inl some) e = absurd (none-some c (sym (ap (λ w. joined_told join w None) some) ∙ e))
-  joined_from B x c m (Some y) (inl some) e = (y, refl, sym (same_Some (joined join x y) c (sym (ap (λ w. joined_told join w (Some y)) some) ∙ e)))
+  joined_from B x c m (Some y) (inl some) e = (y, refl, sym (same_Some (combined join x y) c (sym (ap (λ w. joined_told join w (Some y)) some) ∙ e)))
 
   thin_told : (B : Vector → Type 0) (ms : List (Option Vector)) (xs : List Vector) (y : Vector) → Thin B ms xs → In (Some y) ms → In y xs
   thin_told B [] xs y t i = absurd i
@@ -102,74 +102,74 @@ module _ (join : Join) where
   thin_told B (m ∷ ms) (x ∷ xs) y t (inl e) = elim t.0 [ inl f ↦ inl (same_Some y x (e ∙ f)) | inr n ↦ absurd (none-some y (sym (e ∙ n.0))) ]
   thin_told B (m ∷ ms) (x ∷ xs) y t (inr i) = inr (thin_told (λ w. B w ⊎ (w ≡ x)) ms xs y t.1 i)
 
-  told_joined : (x y c : Vector) (B : Vector → Type 0) (m : Option Vector) → (m ≡ Some y) ⊎ ((m ≡ None) × B y) → joined_told join (Some x) m ≡ Some c → c ≡ joined join x y
-  told_joined x y c B m (inl some) e = sym (same_Some (joined join x y) c (sym (ap (joined_told join (Some x)) some) ∙ e))
+  told_joined : (x y c : Vector) (B : Vector → Type 0) (m : Option Vector) → (m ≡ Some y) ⊎ ((m ≡ None) × B y) → joined_told join (Some x) m ≡ Some c → c ≡ combined join x y
+  told_joined x y c B m (inl some) e = sym (same_Some (combined join x y) c (sym (ap (joined_told join (Some x)) some) ∙ e))
   told_joined x y c B m (inr none) e = absurd (none-some c (sym (ap (joined_told join (Some x)) none.0) ∙ e))
 
   -- ---- the triples under a first vector
 
   -- the vectors of some classes give only what is known with these
   abbrev Gives : List Class → (Vector → Type 0) → List Vector → Type 0
-  Gives classes K zs = (c : Vector) → is_known classes c ≡ true → (z : Vector) → In z zs → K (joined join c z)
+  Gives classes K zs = (c : Vector) → is_known classes c ≡ true → (z : Vector) → In z zs → K (combined join c z)
 
-  -- x and y joined, with each vector after y
+  -- x and y combined, with each vector after y
   row_thin : (x y : Vector) (B K : Vector → Type 0) (classes : List Class) (m : Option Vector) (ms : List (Option Vector)) (ys : List Vector)
-      → (m ≡ Some y) ⊎ ((m ≡ None) × B y) → Thin (λ w. B w ⊎ (w ≡ y)) ms ys → K (joined join x y) → ((w z : Vector) → B w → In z (y ∷ ys) → K (joined join (joined join x w) z)) → Gives classes K (y ∷ ys)
-      → Thin K (map (joined_told join (if_new classes (joined_told join (Some x) m))) ms) (map (joined join (joined join x y)) ys)
+      → (m ≡ Some y) ⊎ ((m ≡ None) × B y) → Thin (λ w. B w ⊎ (w ≡ y)) ms ys → K (combined join x y) → ((w z : Vector) → B w → In z (y ∷ ys) → K (combined join (combined join x w) z)) → Gives classes K (y ∷ ys)
+      → Thin K (map (joined_told join (if_new classes (joined_told join (Some x) m))) ms) (map (combined join (combined join x y)) ys)
   row_thin x y B K classes m ms ys (inr none) rest own before gives =
       let both : Option Vector = joined_told join (Some x) m in
       let nothing : if_new classes both ≡ None = ap (λ u. if_new classes (joined_told join (Some x) u)) none.0 in
-      thin_none (joined_told join (if_new classes both)) (joined join (joined join x y)) (λ u. ap (λ w. joined_told join w u) nothing) K ms ys (thin_length (λ w. B w ⊎ (w ≡ y)) ms ys rest) (λ z i. before y z none.1 (inr i))
+      thin_none (joined_told join (if_new classes both)) (combined join (combined join x y)) (λ u. ap (λ w. joined_told join w u) nothing) K ms ys (thin_length (λ w. B w ⊎ (w ≡ y)) ms ys rest) (λ z i. before y z none.1 (inr i))
   row_thin x y B K classes m ms ys (inl some) rest own before gives =
-      let v = joined join x y in
+      let v = combined join x y in
       let both : Option Vector = joined_told join (Some x) m in
       let both_is : both ≡ Some v = ap (joined_told join (Some x)) some in
       elim (cases_Bool (is_known classes v)) [
         | inl old ↦
             let known : if_new classes (Some v) ≡ None = rw old refl in
             let nothing : if_new classes both ≡ None = ap (if_new classes) both_is ∙ known in
-            thin_none (joined_told join (if_new classes both)) (joined join v) (λ u. ap (λ w. joined_told join w u) nothing) K ms ys (thin_length (λ w. B w ⊎ (w ≡ y)) ms ys rest) (λ z i. gives v old z (inr i))
+            thin_none (joined_told join (if_new classes both)) (combined join v) (λ u. ap (λ w. joined_told join w u) nothing) K ms ys (thin_length (λ w. B w ⊎ (w ≡ y)) ms ys rest) (λ z i. gives v old z (inr i))
         | inr new ↦
             let unknown : if_new classes (Some v) ≡ Some v = rw new refl in
             let told : if_new classes both ≡ Some v = ap (if_new classes) both_is ∙ unknown in
-            let with_known : (w : Vector) → B w ⊎ (w ≡ y) → K (joined join v w) = λ w either. elim either [
+            let with_known : (w : Vector) → B w ⊎ (w ≡ y) → K (combined join v w) = λ w either. elim either [
               | inl b ↦ subst K (last_turned x w y) (before w y b (inl refl))
-              | inr e ↦ subst (λ u. K (joined join v u)) (sym e) (subst K (sym (last_own x y)) own)
+              | inr e ↦ subst (λ u. K (combined join v u)) (sym e) (subst K (sym (last_own x y)) own)
             ] in
-            thin_same K _ (map (joined_told join (Some v)) ms) _ (map (joined join v) ys) (ap (λ u. map (joined_told join u) ms) told) refl
-            (thin_row (joined join) (joined_told join) (λ a b. refl) (λ u. refl) (λ a. refl) v (λ w. B w ⊎ (w ≡ y)) K with_known ms ys rest)
+            thin_same K _ (map (joined_told join (Some v)) ms) _ (map (combined join v) ys) (ap (λ u. map (joined_told join u) ms) told) refl
+            (thin_row (combined join) (joined_told join) (λ a b. refl) (λ u. refl) (λ a. refl) v (λ w. B w ⊎ (w ≡ y)) K with_known ms ys rest)
       ]
 
-  split_under : (x y : Vector) (ys : List Vector) → map (λ p. joined join (joined join x p.0) p.1) (pairs (y ∷ ys)) ≡ map (joined join (joined join x y)) ys ++ map (λ p. joined join (joined join x p.0) p.1) (pairs ys)
+  split_under : (x y : Vector) (ys : List Vector) → map (λ p. combined join (combined join x p.0) p.1) (pairs (y ∷ ys)) ≡ map (combined join (combined join x y)) ys ++ map (λ p. combined join (combined join x p.0) p.1) (pairs ys)
   split_under x y ys =
-      let f : Vector × Vector → Vector = λ p. joined join (joined join x p.0) p.1 in
+      let f : Vector × Vector → Vector = λ p. combined join (combined join x p.0) p.1 in
       let with_y : Vector → Vector × Vector = λ z. (y, z) in
       map-append f (map with_y ys) (pairs ys) ∙ ap (λ t. t ++ map f (pairs ys)) (map-map f with_y ys)
 
   under_thin : (x : Vector) (B K : Vector → Type 0) (classes : List Class) (ms : List (Option Vector)) (xs : List Vector) → Thin B ms xs
-      → ((y : Vector) → In y xs → K (joined join x y)) → ((w z : Vector) → B w → In z xs → K (joined join (joined join x w) z)) → Gives classes K xs
-      → Thin K (told_under join classes (Some x) ms) (map (λ p. joined join (joined join x p.0) p.1) (pairs xs))
+      → ((y : Vector) → In y xs → K (combined join x y)) → ((w z : Vector) → B w → In z xs → K (combined join (combined join x w) z)) → Gives classes K xs
+      → Thin K (told_under join classes (Some x) ms) (map (λ p. combined join (combined join x p.0) p.1) (pairs xs))
   under_thin x B K classes [] [] t own before gives = tt
   under_thin x B K classes [] (y ∷ ys) t own before gives = absurd t
   under_thin x B K classes (m ∷ ms) [] t own before gives = absurd t
   under_thin x B K classes (m ∷ ms) (y ∷ ys) t own before gives =
-      let v = joined join x y in
-      let row = map (joined join v) ys in
+      let v = combined join x y in
+      let row = map (combined join v) ys in
       let B' : Vector → Type 0 = λ w. B w ⊎ (w ≡ y) in
       let K' : Vector → Type 0 = λ w. K w ⊎ In w row in
       let told = joined_told join (Some x) m in
       let first = row_thin x y B K classes m ms ys t.0 t.1 (own y (inl refl)) before gives in
-      let in_row : (z : Vector) → In z ys → K' (joined join v z) = λ z i. inr (in_mapped (joined join v) z ys i) in
-      let before' : (w z : Vector) → B w ⊎ (w ≡ y) → In z ys → K' (joined join (joined join x w) z) = λ w z either i. elim either [
+      let in_row : (z : Vector) → In z ys → K' (combined join v z) = λ z i. inr (in_mapped (combined join v) z ys i) in
+      let before' : (w z : Vector) → B w ⊎ (w ≡ y) → In z ys → K' (combined join (combined join x w) z) = λ w z either i. elim either [
         | inl b ↦ inl (before w z b (inr i))
-        | inr e ↦ subst (λ u. K' (joined join (joined join x u) z)) (sym e) (in_row z i)
+        | inr e ↦ subst (λ u. K' (combined join (combined join x u) z)) (sym e) (in_row z i)
       ] in
       let gives' : Gives (with_told classes told) K' ys = λ c known z i. elim (class_before classes told c known) [
         | inl a ↦ inl (gives c a z (inr i))
-        | inr e ↦ subst (λ u. K' (joined join u z)) (sym (told_joined x y c B m t.0 e)) (in_row z i)
+        | inr e ↦ subst (λ u. K' (combined join u z)) (sym (told_joined x y c B m t.0 e)) (in_row z i)
       ] in
       thin_same K _ _ _ _ refl (split_under x y ys)
-      (thin_append K _ row _ (map (λ p. joined join (joined join x p.0) p.1) (pairs ys)) first
+      (thin_append K _ row _ (map (λ p. combined join (combined join x p.0) p.1) (pairs ys)) first
       (under_thin x B' K' (with_told classes told) ms ys t.1 (λ z i. inl (own z (inr i))) before' gives'))
 
   none_under : (classes : List Class) (ms : List (Option Vector)) → told_under join classes None ms ≡ map (λ p. None) (pairs ms)
@@ -182,24 +182,24 @@ module _ (join : Join) where
 
   -- ---- all triples
 
-  split_triples : (x : Vector) (xs : List Vector) → joined_triples join (x ∷ xs) ≡ map (λ p. joined join (joined join x p.0) p.1) (pairs xs) ++ joined_triples join xs
+  split_triples : (x : Vector) (xs : List Vector) → joined_triples join (x ∷ xs) ≡ map (λ p. combined join (combined join x p.0) p.1) (pairs xs) ++ joined_triples join xs
   split_triples x xs =
-      let f : Vector × Vector × Vector → Vector = λ t. joined join (joined join t.0 t.1) t.2 in
+      let f : Vector × Vector × Vector → Vector = λ t. combined join (combined join t.0 t.1) t.2 in
       let with_x : Vector × Vector → Vector × Vector × Vector = λ p. (x, p.0, p.1) in
       map-append f (map with_x (pairs xs)) (triples xs) ∙ ap (λ t. t ++ map f (triples xs)) (map-map f with_x (pairs xs))
 
   -- the triples of a list, where all pairs are known, what is known has its triples with all, and so have the classes
   pub triples_thin : (B K : Vector → Type 0) (classes : List Class) (ms : List (Option Vector)) (xs : List Vector) → Thin B ms xs
-      → ((y z : Vector) → B y ⊎ In y xs → B z ⊎ In z xs → K (joined join y z))
-      → ((a y z : Vector) → B a → B y ⊎ In y xs → B z ⊎ In z xs → K (joined join (joined join a y) z))
-      → ((c : Vector) → is_known classes c ≡ true → (z : Vector) → B z ⊎ In z xs → K (joined join c z))
+      → ((y z : Vector) → B y ⊎ In y xs → B z ⊎ In z xs → K (combined join y z))
+      → ((a y z : Vector) → B a → B y ⊎ In y xs → B z ⊎ In z xs → K (combined join (combined join a y) z))
+      → ((c : Vector) → is_known classes c ≡ true → (z : Vector) → B z ⊎ In z xs → K (combined join c z))
       → Thin K (told_triples join classes ms) (joined_triples join xs)
   triples_thin B K classes [] [] t two before gives = tt
   triples_thin B K classes [] (x ∷ xs) t two before gives = absurd t
   triples_thin B K classes (m ∷ ms) [] t two before gives = absurd t
   triples_thin B K classes (m ∷ ms) (x ∷ xs) t two before gives =
       let B' : Vector → Type 0 = λ w. B w ⊎ (w ≡ x) in
-      let f : Vector × Vector → Vector = λ p. joined join (joined join x p.0) p.1 in
+      let f : Vector × Vector → Vector = λ p. combined join (combined join x p.0) p.1 in
       let K' : Vector → Type 0 = λ w. K w ⊎ In w (map f (pairs xs)) in
       let after = classes_under join classes m ms in
       let same : length (pairs ms) ≡ length (pairs xs) = length-pairs ms ∙ ap pair_count (thin_length B' ms xs t.1) ∙ sym (length-pairs xs) in
@@ -210,13 +210,13 @@ module _ (join : Join) where
         | inr n ↦ thin_same K _ (map nothing (pairs ms)) _ (map f (pairs xs)) (ap (λ u. told_under join classes u ms) n.0 ∙ none_under classes ms) refl
             (thin_none nothing f (λ p. refl) K (pairs ms) (pairs xs) same (λ p i. let parts = in_pairs p xs i in before x p.0 p.1 n.1 (inr (inr parts.0)) (inr (inr parts.1))))
       ] in
-      let gives' : (c : Vector) → is_known after c ≡ true → (z : Vector) → B' z ⊎ In z xs → K' (joined join c z) = λ c known z among.
+      let gives' : (c : Vector) → is_known after c ≡ true → (z : Vector) → B' z ⊎ In z xs → K' (combined join c z) = λ c known z among.
       elim (class_from classes m ms c known) [
         | inl a ↦ inl (gives c a z (shift B x z xs among))
         | inr u ↦
             let from = joined_from B x c m u.0 t.0 u.2 in
             let there : In from.0 xs = thin_told B' ms xs from.0 t.1 (in_same (Some from.0) u.0 ms (sym from.1) u.1) in
-            subst (λ w. K' (joined join w z)) (sym from.2) (under_x B K x xs two before from.0 z (inr there) among)
+            subst (λ w. K' (combined join w z)) (sym from.2) (under_x B K x xs two before from.0 z (inr there) among)
       ] in
       thin_same K _ _ _ _ refl (split_triples x xs)
       (thin_append K _ (map f (pairs xs)) _ (joined_triples join xs) first

@@ -5,18 +5,18 @@ use Rattle.bit_rows.specs.Bits.{and_bits, or_bits}
 use Rattle.bit_classes.specs.declared.join.Join.{Join}
 use Rattle.bit_classes.specs.declared.join.Join.TheVariants.{And, Or}
 
--- two vectors joined by AND or by OR
-abbrev pub joined : Join → List Bool → List Bool → List Bool
-joined And xs ys = and_bits xs ys
-joined Or xs ys = or_bits xs ys
+-- two vectors combined by AND or by OR
+abbrev pub combined : Join → List Bool → List Bool → List Bool
+combined And xs ys = and_bits xs ys
+combined Or xs ys = or_bits xs ys
 
--- each two vectors of a list, joined
+-- each two vectors of a list, combined
 abbrev pub joined_pairs : Join → List (List Bool) → List (List Bool)
-joined_pairs join rows = map (λ p. joined join p.0 p.1) (pairs rows)
+joined_pairs join rows = map (λ p. combined join p.0 p.1) (pairs rows)
 
--- each three vectors of a list, joined
+-- each three vectors of a list, combined
 abbrev pub joined_triples : Join → List (List Bool) → List (List Bool)
-joined_triples join rows = map (λ p. joined join (joined join p.0 p.1) p.2) (triples rows)
+joined_triples join rows = map (λ p. combined join (combined join p.0 p.1) p.2) (triples rows)
 
 -- the vectors of the predicates of two or three atoms, as far as the bound goes: of each number the ANDs, and then the ORs
 abbrev pub more_vectors : List (List Bool) → ℕ → List (List Bool)

@@ -9,7 +9,7 @@ use Rattle.bit_classes.specs.declared.class.ClassEnd.TheVariants.{More}
 use Rattle.bit_classes.specs.declared.join.Join.{Join}
 use Rattle.bit_classes.specs.declared.join.Join.TheVariants.{And, Or}
 use Rattle.bit_classes.specs.Classes.{class_of}
-use Rattle.bit_classes.specs.Vectors.{joined}
+use Rattle.bit_classes.specs.Vectors.{combined}
 
 -- classes of vectors of one width that were found, and the most that may be found
 pub record Walk : Type 0 where
@@ -55,12 +55,12 @@ abbrev pub new_vectors : List Class → ℕ → List (List Bool) → List (Optio
 new_vectors classes n [] = []
 new_vectors classes n (v ∷ vectors) = (if is_known classes v then None else Some v) ∷ new_vectors (with_vector classes (n, v)) (n + 1) vectors
 
--- two vectors joined, where both are told
+-- two vectors combined, where both are told
 abbrev pub joined_told : Join → Option (List Bool) → Option (List Bool) → Option (List Bool)
 joined_told join None b = None
-joined_told join (Some x) b = option_map (joined join x) b
+joined_told join (Some x) b = option_map (combined join x) b
 
--- each two vectors of a list joined, where both are told
+-- each two vectors of a list combined, where both are told
 abbrev pub told_pairs : Join → List (Option (List Bool)) → List (Option (List Bool))
 told_pairs join rows = map (λ p. joined_told join p.0 p.1) (pairs rows)
 
@@ -74,18 +74,18 @@ abbrev pub with_told : List Class → Option (List Bool) → List Class
 with_told classes None = classes
 with_told classes (Some v) = with_vector classes (0, v)
 
--- a first vector joined with each two of a list, where it with the earlier of the two gives a new vector
+-- a first vector combined with each two of a list, where it with the earlier of the two gives a new vector
 abbrev pub told_under : Join → List Class → Option (List Bool) → List (Option (List Bool)) → List (Option (List Bool))
 told_under join pair_classes first [] = []
 told_under join pair_classes first (m ∷ ms) =
     map (joined_told join (if_new pair_classes (joined_told join first m))) ms ++ told_under join (with_told pair_classes (joined_told join first m)) first ms
 
--- the classes after a first vector joined with each of a list
+-- the classes after a first vector combined with each of a list
 abbrev pub classes_under : Join → List Class → Option (List Bool) → List (Option (List Bool)) → List Class
 classes_under join pair_classes first [] = pair_classes
 classes_under join pair_classes first (m ∷ ms) = classes_under join (with_told pair_classes (joined_told join first m)) first ms
 
--- each three vectors of a list joined, where the first two of them give a new vector
+-- each three vectors of a list combined, where the first two of them give a new vector
 abbrev pub told_triples : Join → List Class → List (Option (List Bool)) → List (Option (List Bool))
 told_triples join pair_classes [] = []
 told_triples join pair_classes (m ∷ ms) = told_under join pair_classes m ms ++ told_triples join (classes_under join pair_classes m ms) ms

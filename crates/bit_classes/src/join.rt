@@ -1,5 +1,5 @@
 ghost use Rattle.std.specs.Prelude.{◌≡◌, length, IfOk};
-ghost use Rattle.bit_classes.specs.Vectors.{joined};
+ghost use Rattle.bit_classes.specs.Vectors.{combined};
 
 use bit_rows::BitRow;
 use std::alloc::Global;
@@ -12,10 +12,15 @@ pub enum Join {
     Or,
 }
 
-/// Two rows of one length, joined.
-pub fn join_rows(alloc: Global, join: Join, a: &BitRow, b: &BitRow) -> Result<BitRow, OutOfMemory>
+/// Two rows of one length, combined.
+pub fn combine_rows(
+    alloc: Global,
+    join: Join,
+    a: &BitRow,
+    b: &BitRow,
+) -> Result<BitRow, OutOfMemory>
     requires { length a.now ≡ length b.now }
-    ensures { IfOk result (λ row. row ≡ joined join a.now b.now) }
+    ensures { IfOk result (λ row. row ≡ combined join a.now b.now) }
 {
     match join {
         Join::And => a.and(alloc, b),
@@ -23,11 +28,11 @@ pub fn join_rows(alloc: Global, join: Join, a: &BitRow, b: &BitRow) -> Result<Bi
     }
 }
 
-/// Makes a row, of the length of two others, these two joined.
-pub fn set_joined(row: &mut BitRow, join: Join, a: &BitRow, b: &BitRow)
+/// Makes a row, of the length of two others, these two combined.
+pub fn set_combined(row: &mut BitRow, join: Join, a: &BitRow, b: &BitRow)
     requires left { length row.old ≡ length a.now }
     requires right { length a.now ≡ length b.now }
-    ensures { row.new ≡ joined join a.now b.now }
+    ensures { row.new ≡ combined join a.now b.now }
 {
     match join {
         Join::And => row.set_and(a, b),

@@ -11,6 +11,3 @@ mod walk;
 pub use class::{Class, ClassEnd};
 pub use laws::vectors_are_of_preds;
 pub use listing::classes;
-
-#[cfg(test)]
-mod tests;

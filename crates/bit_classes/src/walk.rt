@@ -1,11 +1,11 @@
 ghost use Rattle.std.specs.Prelude.{◌≡◌, ◌+◌, ◌<◌, ◌≤◌, ◌^◌, ◌∷◌, ◌++◌, [], length, map, option_map, Some, None, IfSome, IfOk, IfErr, OnOk, if◌then◌else◌};
 ghost use Rattle.std.specs.List.{All, enumerate_from};
-ghost use Rattle.bit_classes.specs.Vectors.{joined};
+ghost use Rattle.bit_classes.specs.Vectors.{combined};
 ghost use Rattle.bit_classes.specs.Walk.{Sees, HasWidth, is_known, numbered, new_vectors, joined_told, if_new, with_told, told_pairs, told_under, classes_under, told_triples};
 
 use crate::class::ClassEnd;
 use crate::found::Found;
-use crate::join::{Join, join_rows, set_joined};
+use crate::join::{Join, combine_rows, set_combined};
 use bit_rows::BitRow;
 use predicate_core::pair_count;
 use std::alloc::Global;
@@ -15,7 +15,7 @@ use value_core::OutOfMemory;
 fn note(news: &mut Vec<Option<BitRow>>, row: Option<BitRow>) -> Result<(), OutOfMemory>
     ensures { OnOk result (news.new.items ≡ news.old.items ++ row ∷ []) }
 {
-    news.push(row).map_err(|_| OutOfMemory)
+    Ok(news.push(row)?)
 }
 
 // Sees a row, and notes it where it is new.
@@ -54,7 +54,7 @@ pub fn see_rows(
     Ok(())
 }
 
-// Two rows joined, where there is a second.
+// Two rows combined, where there is a second.
 fn join_told(
     alloc: Global,
     join: Join,
@@ -62,15 +62,15 @@ fn join_told(
     other: &Option<BitRow>,
 ) -> Result<Option<BitRow>, OutOfMemory>
     requires { IfSome other.now (λ v. length row.now ≡ length v) }
-    ensures { IfOk result (λ both. both ≡ option_map (joined join row.now) other.now) }
+    ensures { IfOk result (λ both. both ≡ option_map (combined join row.now) other.now) }
 {
     match other {
-        Some(other) => Ok(Some(join_rows(alloc, join, row, other)?)),
+        Some(other) => Ok(Some(combine_rows(alloc, join, row, other)?)),
         None => Ok(None),
     }
 }
 
-// Sees a row joined with another, where there is one.
+// Sees a row combined with another, where there is one.
 #[tactic(auto, using(crate::proofs::SplitLaws::joined_length))]
 fn see_both(
     found: &mut Found,
@@ -82,19 +82,19 @@ fn see_both(
 ) -> Result<(), ClassEnd>
     requires width { length both.old ≡ length row.now }
     requires widths { IfSome other.now (λ v. length row.now ≡ length v) }
-    ensures sees { Sees found.old (numbered number (option_map (joined join row.now) other.now ∷ [])) found.new result }
+    ensures sees { Sees found.old (numbered number (option_map (combined join row.now) other.now ∷ [])) found.new result }
     ensures width { length both.new ≡ length row.now }
 {
     match other {
         Some(other) => {
-            set_joined(both, join, row, other);
+            set_combined(both, join, row, other);
             found.see(both, number)
         }
         None => Ok(()),
     }
 }
 
-// Sees a row joined with each of some others that there is, under the numbers from one on.
+// Sees a row combined with each of some others that there is, under the numbers from one on.
 fn see_joined(
     found: &mut Found,
     join: Join,
@@ -133,7 +133,7 @@ fn see_told(
     }
 }
 
-/// Sees each two of some rows joined, where there are both, under the numbers from one on.
+/// Sees each two of some rows combined, where there are both, under the numbers from one on.
 pub fn see_pairs(
     found: &mut Found,
     join: Join,
@@ -169,7 +169,7 @@ fn keep_new(pairs: &mut Found, row: Option<BitRow>) -> Result<Option<BitRow>, Ou
     Ok(Some(row))
 }
 
-// Sees a row joined with each two of some others, under the numbers from one on, where it with the earlier of the two gives
+// Sees a row combined with each two of some others, under the numbers from one on, where it with the earlier of the two gives
 // a new row among `pairs`.
 fn see_pairs_under(
     found: &mut Found,
@@ -188,8 +188,8 @@ fn see_pairs_under(
 {
     let mut next = number;
     for i in 0..rows.len() {
-        let joined = join_told(found.alloc(), join, first, &rows[i])?;
-        let both = keep_new(pairs, joined)?;
+        let combined = join_told(found.alloc(), join, first, &rows[i])?;
+        let both = keep_new(pairs, combined)?;
         let others = &rows[i + 1..];
         see_told(found, join, &both, others, next)?;
         next += others.len() as u64;
@@ -219,7 +219,7 @@ fn see_pairs_told(
     }
 }
 
-/// Sees each three of some rows joined, where there are all, under the numbers from one on. Where two of them give no new row,
+/// Sees each three of some rows combined, where there are all, under the numbers from one on. Where two of them give no new row,
 /// they give none with a third either.
 pub fn see_triples(
     found: &mut Found,

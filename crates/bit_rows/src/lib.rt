@@ -5,6 +5,3 @@ mod bit_row;
 mod words;
 
 pub use bit_row::BitRow;
-
-#[cfg(test)]
-mod tests;

@@ -46,10 +46,10 @@ pub fn pack(alloc: Global, bits: &[bool]) -> Result<Vec<u64>, OutOfMemory>
     ensures { IfOk result (λ words. words.items ≡ packed bits.now) }
 {
     let count = bits.len().div_ceil(WORD_BITS);
-    let mut words = Vec::with_capacity(alloc, count).map_err(|_| OutOfMemory)?;
+    let mut words = Vec::with_capacity(alloc, count)?;
     for k in 0..count {
         let word = first_word(&bits[k * WORD_BITS..]);
-        words.push(word).map_err(|_| OutOfMemory)?;
+        words.push(word)?;
     }
     Ok(words)
 }
@@ -59,9 +59,9 @@ pub fn and_words(alloc: Global, a: &[u64], b: &[u64]) -> Result<Vec<u64>, OutOfM
     requires { length a.now ≡ length b.now }
     ensures { IfOk result (λ words. words.items ≡ zip2 (λ x y. bit_and x y) a.now b.now) }
 {
-    let mut words = Vec::with_capacity(alloc, a.len()).map_err(|_| OutOfMemory)?;
+    let mut words = Vec::with_capacity(alloc, a.len())?;
     for k in 0..a.len() {
-        words.push(a[k] & b[k]).map_err(|_| OutOfMemory)?;
+        words.push(a[k] & b[k])?;
     }
     Ok(words)
 }
@@ -71,9 +71,9 @@ pub fn or_words(alloc: Global, a: &[u64], b: &[u64]) -> Result<Vec<u64>, OutOfMe
     requires { length a.now ≡ length b.now }
     ensures { IfOk result (λ words. words.items ≡ zip2 (λ x y. bit_or x y) a.now b.now) }
 {
-    let mut words = Vec::with_capacity(alloc, a.len()).map_err(|_| OutOfMemory)?;
+    let mut words = Vec::with_capacity(alloc, a.len())?;
     for k in 0..a.len() {
-        words.push(a[k] | b[k]).map_err(|_| OutOfMemory)?;
+        words.push(a[k] | b[k])?;
     }
     Ok(words)
 }

@@ -13,7 +13,7 @@ use table_core::Tuple;
 use value_core::{ColType, OutOfMemory, Value};
 
 // The most atoms whose predicates are numbered.
-const MOST_ATOMS: usize = 100_000;
+const MOST_NUMBERED: usize = 100_000;
 
 /// A predicate with its number in the list of its hole.
 #[derive(Clone, Copy, Debug, PartialEq, Eq)]
@@ -33,8 +33,7 @@ fn kept_bits(
 {
     let mut bits = Vec::new(alloc);
     for row in candidates {
-        bits.push(keeps(pred, row.cells(), constants))
-            .map_err(|_| OutOfMemory)?;
+        bits.push(keeps(pred, row.cells(), constants))?;
     }
     BitRow::of(alloc, bits.as_slice())
 }
@@ -51,8 +50,7 @@ fn atom_rows(
     let mut rows = Items::new(alloc);
     for atom in atoms {
         let pred = Pred::One(*atom);
-        rows.push(kept_bits(alloc, constants, candidates, &pred)?)
-            .map_err(|_| OutOfMemory)?;
+        rows.push(kept_bits(alloc, constants, candidates, &pred)?)?;
     }
     Ok(rows)
 }
@@ -61,15 +59,11 @@ fn atom_rows(
 fn push_choice(list: &PredList, class: &Class, out: &mut Items<Choice>) -> Result<(), OutOfMemory>
     ensures { OnOk result (out.new ≡ out.old ++ class_choice list.now class.now) }
 {
-    match list.at(class.number) {
-        Some(pred) => out
-            .push(Choice {
-                pred,
-                number: class.number,
-            })
-            .map_err(|_| OutOfMemory),
-        None => Ok(()),
+    let number = class.number;
+    if let Some(pred) = list.at(number) {
+        out.push(Choice { pred, number })?;
     }
+    Ok(())
 }
 
 // The predicates of some classes.
@@ -101,7 +95,7 @@ pub fn choices(
     ensures { IfOk result (λ cs. cs ≡ choices_of constants.now candidates.now (pred_list (atom_list types.now constants.now) bound)) }
 {
     let atoms = atoms(alloc, types, constants)?;
-    if atoms.len() > MOST_ATOMS {
+    if atoms.len() > MOST_NUMBERED {
         return Err(OutOfMemory);
     }
     let rows = atom_rows(alloc, constants, candidates, atoms.as_slice())?;

@@ -4,6 +4,3 @@
 mod choice;
 
 pub use choice::{Choice, choices};
-
-#[cfg(test)]
-mod tests;

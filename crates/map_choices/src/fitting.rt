@@ -52,10 +52,9 @@ fn push_place(places: &mut Items<usize>, at: usize, kept: bool) -> Result<(), Ou
     ensures { OnOk result (places.new ≡ places.old ++ (if kept then at ∷ [] else [])) }
 {
     if kept {
-        places.push(at).map_err(|_| OutOfMemory)
-    } else {
-        Ok(())
+        places.push(at)?;
     }
+    Ok(())
 }
 
 // The places of the columns of a type.
@@ -96,8 +95,7 @@ fn push_maps_from(
     ensures { OnOk result (out.new ≡ out.old ++ map (λ rest. at ∷ rest) rests.now) }
 {
     for rest in rests {
-        out.push(concatenated(alloc, &[at], rest.as_slice())?)
-            .map_err(|_| OutOfMemory)?;
+        out.push(concatenated(alloc, &[at], rest.as_slice())?)?;
     }
     Ok(())
 }
@@ -122,7 +120,7 @@ fn empty_map(alloc: Global) -> Result<Items<Items<usize>>, OutOfMemory>
     ensures { IfOk result (λ ms. ms ≡ [] ∷ []) }
 {
     let mut out = Items::new(alloc);
-    out.push(Items::new(alloc)).map_err(|_| OutOfMemory)?;
+    out.push(Items::new(alloc))?;
     Ok(out)
 }
 

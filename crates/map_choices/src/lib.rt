@@ -6,6 +6,3 @@ mod laws;
 
 pub use fitting::fitting_maps;
 pub use laws::what_gives_fits;
-
-#[cfg(test)]
-mod tests;

@@ -10,28 +10,26 @@ use Rattle.predicate_core.specs.Truth.{keeps}
 use Rattle.table_core.specs.Rows.{Row}
 use Rattle.table_core.specs.declared.task.TaskParts.{TaskParts}
 use Rattle.query_core.specs.declared.agg.Agg.{Agg}
+use Rattle.query_core.specs.declared.kinds.Pairing.{Pairing}
+use Rattle.query_core.specs.declared.kinds.Uniting.{Uniting}
 use Rattle.query_core.specs.Tree.{Tree}
 use Rattle.query_core.specs.Tree as t
 use Rattle.query_core.specs.Groups.{grouped}
-use Rattle.query_core.specs.Meaning.{columns, rows, of_both}
-use Rattle.query_core.specs.Grammar.{predicates, filter_predicates, fillings, filters_filled}
+use Rattle.query_core.specs.Meaning.{columns, hole_types, rows}
+use Rattle.query_core.specs.Grammar.{predicates, filter_predicates, fillings, filters_filled, pairs_filled}
 use Rattle.query_core.specs.Standard.{rows_or_none, is_standard_tree, is_standard_filter, is_standard_pair, is_first, keeps_all}
 use Rattle.query_core.specs.Rank.{pred_numbers, pred_number}
 use Rattle.hole_choices.specs.Choices.{choice}
-use Rattle.plain_search.specs.declared.kinds.Pairing.{Pairing}
-use Rattle.plain_search.specs.declared.kinds.Pairing.TheVariants.{Join, Left}
-use Rattle.plain_search.specs.declared.kinds.Uniting.{Uniting}
-use Rattle.plain_search.specs.declared.kinds.Uniting.TheVariants.{All, Firsts}
-use Rattle.plain_search.specs.Filled.{Filled, filter_filled, filter_on, filters_on, pair_filled, pairs_on, paired, paired_rows, groups_on, unions_on, united, united_rows, filled_up}
+use Rattle.plain_search.specs.Filled.{Filled, filter_filled, filter_on, filters_on, pair_filled, pairs_on, groups_on, unions_on, filled_up}
 use Rattle.query_core.proofs.MapLaws.{single, flat_map_twice, flat_map_same, flat_map_none, flat_map_of_map, flat_map_filter, flat_map_singles, map_twice, of_each_filled_is}
 
 -- whether a tree is standard and has rows
 abbrev pub is_filled : TaskParts → Tree → Bool
-is_filled task tree = is_some (rows task tree) && is_standard_tree task tree
+is_filled task tree = is_some (rows task.inputs task.constants tree) && is_standard_tree task tree
 
 -- what is kept of such a tree
 abbrev pub filling : TaskParts → Tree → Filled
-filling task tree = record { tree = tree; types = columns task tree; numbers = pred_numbers task tree; rows = rows_or_none task tree }
+filling task tree = record { tree = tree; types = columns task.inputs tree; numbers = pred_numbers task tree; rows = rows_or_none task tree }
 
 abbrev pub filled_of : TaskParts → Tree → List Filled
 filled_of task tree = single (is_filled task tree) (filling task tree)
@@ -57,103 +55,83 @@ and_true : (a b c : Bool) → a ≡ true → b ≡ c → (a && b) ≡ c
 and_true a b c first second = rw first second
 
 -- a filter over a filled child, for each predicate
-filter_by : (task : TaskParts) (x : Tree) (found : List Row) (p : Pred) → rows task x ≡ Some found → is_standard_tree task x ≡ true
-    → filled_of task (t.filter x p) ≡ (if is_first task (columns task x) (rows_or_none task x) p then filter_on task (filling task x) (choice (predicates task (columns task x)) p) else [])
+filter_by : (task : TaskParts) (x : Tree) (found : List Row) (p : Pred) → rows task.inputs task.constants x ≡ Some found → is_standard_tree task x ≡ true
+    → filled_of task (t.filter x p) ≡ (if is_first task (columns task.inputs x) (rows_or_none task x) p then filter_on task.constants (filling task x) (choice (predicates task (columns task.inputs x)) p) else [])
 filter_by task x found p has standard =
     let c = filling task x in
-    let chosen = choice (predicates task (columns task x)) p in
-    let has_rows : is_some (rows task (t.filter x p)) ≡ true = rw has refl in
+    let chosen = choice (predicates task (columns task.inputs x)) p in
+    let has_rows : is_some (rows task.inputs task.constants (t.filter x p)) ≡ true = rw has refl in
     let is_standard : is_standard_tree task (t.filter x p) ≡ is_standard_filter task x p = and_true (is_standard_tree task x) (is_standard_filter task x p) (is_standard_filter task x p) standard refl in
     let same_rows : rows_or_none task (t.filter x p) ≡ list_filter (keeps task.constants p) (rows_or_none task x) = rw has refl in
-    let made : filling task (t.filter x p) ≡ filter_filled task c chosen =
-    ap (λ kept. record { tree = t.filter x p; types = columns task x; numbers = pred_numbers task x ++ chosen.number ∷ []; rows = kept }) same_rows in
-    single_same (is_filled task (t.filter x p)) (is_standard_filter task x p) (filling task (t.filter x p)) (filter_filled task c chosen) (and_true _ _ _ has_rows is_standard) made
-    ∙ both_tests (is_first task (columns task x) (rows_or_none task x) p) (not (keeps_all task.constants (rows_or_none task x) p)) (filter_filled task c chosen)
+    let made : filling task (t.filter x p) ≡ filter_filled task.constants c chosen =
+    ap (λ kept. record { tree = t.filter x p; types = columns task.inputs x; numbers = pred_numbers task x ++ chosen.number ∷ []; rows = kept }) same_rows in
+    single_same (is_filled task (t.filter x p)) (is_standard_filter task x p) (filling task (t.filter x p)) (filter_filled task.constants c chosen) (and_true _ _ _ has_rows is_standard) made
+    ∙ both_tests (is_first task (columns task.inputs x) (rows_or_none task x) p) (not (keeps_all task.constants (rows_or_none task x) p)) (filter_filled task.constants c chosen)
 
-filter_none : (task : TaskParts) (x : Tree) (o : Option (List Row)) (b : Bool) (p : Pred) → rows task x ≡ o → is_standard_tree task x ≡ b → is_some o && b ≡ false → filled_of task (t.filter x p) ≡ []
+filter_none : (task : TaskParts) (x : Tree) (o : Option (List Row)) (b : Bool) (p : Pred) → rows task.inputs task.constants x ≡ o → is_standard_tree task x ≡ b → is_some o && b ≡ false → filled_of task (t.filter x p) ≡ []
 filter_none task x None b p has standard not_both = rw has refl
 filter_none task x (Some found) true p has standard not_both = cc
 filter_none task x (Some found) false p has standard not_both = rw (has, standard) refl
 
 -- the filters over a child that is filled
-filters_filled_on : (task : TaskParts) (x : Tree) (found : List Row) → rows task x ≡ Some found → is_standard_tree task x ≡ true → flat_map (filled_of task) (filters_filled task x) ≡ filters_on task (filling task x)
+filters_filled_on : (task : TaskParts) (x : Tree) (found : List Row) → rows task.inputs task.constants x ≡ Some found → is_standard_tree task x ≡ true → flat_map (filled_of task) (filters_filled task x) ≡ filters_on task (filling task x)
 filters_filled_on task x found has standard =
-    let preds = predicates task (columns task x) in
+    let preds = predicates task (columns task.inputs x) in
     let c = filling task x in
-    let chosen : Pred → List Filled = λ p. if is_first task (columns task x) (rows_or_none task x) p then filter_on task c (choice preds p) else [] in
-    let kept_all : filter_on task c (choice preds Always) ≡ [] = rw (always_keeps task.constants (rows_or_none task x)) refl in
-    flat_map_of_map (filled_of task) (t.filter x) (filter_predicates task (columns task x))
-    ∙ flat_map_same (λ p. filled_of task (t.filter x p)) chosen (filter_predicates task (columns task x)) (λ p. filter_by task x found p has standard)
-    ∙ sym (ap (λ t. t ++ flat_map chosen (filter_predicates task (columns task x))) (if_none (is_first task (columns task x) (rows_or_none task x) Always) (filter_on task c (choice preds Always)) kept_all))
-    ∙ sym (flat_map_filter (λ p. filter_on task c (choice preds p)) (is_first task (columns task x) (rows_or_none task x)) preds)
-    ∙ sym (flat_map_of_map (filter_on task c) (choice preds) (list_filter (is_first task (columns task x) (rows_or_none task x)) preds))
+    let chosen : Pred → List Filled = λ p. if is_first task (columns task.inputs x) (rows_or_none task x) p then filter_on task.constants c (choice preds p) else [] in
+    let kept_all : filter_on task.constants c (choice preds Always) ≡ [] = rw (always_keeps task.constants (rows_or_none task x)) refl in
+    flat_map_of_map (filled_of task) (t.filter x) (filter_predicates task (columns task.inputs x))
+    ∙ flat_map_same (λ p. filled_of task (t.filter x p)) chosen (filter_predicates task (columns task.inputs x)) (λ p. filter_by task x found p has standard)
+    ∙ sym (ap (λ t. t ++ flat_map chosen (filter_predicates task (columns task.inputs x))) (if_none (is_first task (columns task.inputs x) (rows_or_none task x) Always) (filter_on task.constants c (choice preds Always)) kept_all))
+    ∙ sym (flat_map_filter (λ p. filter_on task.constants c (choice preds p)) (is_first task (columns task.inputs x) (rows_or_none task x)) preds)
+    ∙ sym (flat_map_of_map (filter_on task.constants c) (choice preds) (list_filter (is_first task (columns task.inputs x) (rows_or_none task x)) preds))
 
-filters_of : (task : TaskParts) (x : Tree) (o : Option (List Row)) (b : Bool) → rows task x ≡ o → is_standard_tree task x ≡ b → flat_map (filled_of task) (filters_filled task x) ≡ flat_map (filters_on task) (filled_of task x)
+filters_of : (task : TaskParts) (x : Tree) (o : Option (List Row)) (b : Bool) → rows task.inputs task.constants x ≡ o → is_standard_tree task x ≡ b → flat_map (filled_of task) (filters_filled task x) ≡ flat_map (filters_on task) (filled_of task x)
 filters_of task x None b has standard =
-    flat_map_of_map (filled_of task) (t.filter x) (filter_predicates task (columns task x))
-    ∙ flat_map_none (λ p. filled_of task (t.filter x p)) (filter_predicates task (columns task x)) (λ p. filter_none task x None b p has standard refl)
+    flat_map_of_map (filled_of task) (t.filter x) (filter_predicates task (columns task.inputs x))
+    ∙ flat_map_none (λ p. filled_of task (t.filter x p)) (filter_predicates task (columns task.inputs x)) (λ p. filter_none task x None b p has standard refl)
     ∙ rw has refl
 filters_of task x (Some found) false has standard =
-    flat_map_of_map (filled_of task) (t.filter x) (filter_predicates task (columns task x))
-    ∙ flat_map_none (λ p. filled_of task (t.filter x p)) (filter_predicates task (columns task x)) (λ p. filter_none task x (Some found) false p has standard refl)
+    flat_map_of_map (filled_of task) (t.filter x) (filter_predicates task (columns task.inputs x))
+    ∙ flat_map_none (λ p. filled_of task (t.filter x p)) (filter_predicates task (columns task.inputs x)) (λ p. filter_none task x (Some found) false p has standard refl)
     ∙ rw (has, standard) refl
 filters_of task x (Some found) true has standard =
     let one : filled_of task x ≡ filling task x ∷ [] = rw (has, standard) refl in
     filters_filled_on task x found has standard ∙ sym (ap (flat_map (filters_on task)) one ∙ append-nil (filters_on task (filling task x)))
 
--- what a join or a left join has
-paired_has : (kind : Pairing) (task : TaskParts) (x y : Tree) (p : Pred) → rows task (paired kind x y p) ≡ of_both (paired_rows kind task p (length (columns task y))) (rows task x) (rows task y)
-paired_has Join task x y p = refl
-paired_has Left task x y p = refl
-
-paired_standard : (kind : Pairing) (task : TaskParts) (x y : Tree) (p : Pred) → is_standard_tree task (paired kind x y p) ≡ ((is_standard_tree task x && is_standard_tree task y) && is_standard_pair task x y p)
-paired_standard Join task x y p = refl
-paired_standard Left task x y p = refl
-
-paired_columns : (kind : Pairing) (task : TaskParts) (x y : Tree) (p : Pred) → columns task (paired kind x y p) ≡ columns task x ++ columns task y
-paired_columns Join task x y p = refl
-paired_columns Left task x y p = refl
-
-paired_numbers : (kind : Pairing) (task : TaskParts) (x y : Tree) (p : Pred) → pred_numbers task (paired kind x y p) ≡ (pred_numbers task x ++ pred_numbers task y) ++ pred_number task (columns task x ++ columns task y) p ∷ []
-paired_numbers Join task x y p = refl
-paired_numbers Left task x y p = refl
-
 -- a pair of filled parts, for each predicate
-pair_by : (task : TaskParts) (kind : Pairing) (x y : Tree) (lefts rights : List Row) (p : Pred) → rows task x ≡ Some lefts → rows task y ≡ Some rights → is_standard_tree task x ≡ true → is_standard_tree task y ≡ true
-    → filled_of task (paired kind x y p) ≡ single (is_standard_pair task x y p) (pair_filled task kind (filling task x) (filling task y) (choice (predicates task (columns task x ++ columns task y)) p))
+pair_by : (task : TaskParts) (kind : Pairing) (x y : Tree) (lefts rights : List Row) (p : Pred) → rows task.inputs task.constants x ≡ Some lefts → rows task.inputs task.constants y ≡ Some rights → is_standard_tree task x ≡ true → is_standard_tree task y ≡ true
+    → filled_of task (t.pair kind x y p) ≡ single (is_standard_pair task x y p) (pair_filled task.constants kind (filling task x) (filling task y) (choice (predicates task (hole_types task.inputs x y)) p))
 pair_by task kind x y lefts rights p left_has right_has left_standard right_standard =
-    rw (paired_has kind task x y p, paired_standard kind task x y p, paired_columns kind task x y p, paired_numbers kind task x y p, left_has, right_has, left_standard, right_standard) refl
+    rw (left_has, right_has, left_standard, right_standard) refl
 
 -- a pair of which a part isn't filled
-pair_none : (task : TaskParts) (kind : Pairing) (x y : Tree) (ox oy : Option (List Row)) (bx by : Bool) (p : Pred) → rows task x ≡ ox → rows task y ≡ oy → is_standard_tree task x ≡ bx → is_standard_tree task y ≡ by
-    → (is_some ox && bx) && (is_some oy && by) ≡ false → filled_of task (paired kind x y p) ≡ []
-pair_none task kind x y None oy bx by p hx hy sx sy none = rw (paired_has kind task x y p, hx) refl
-pair_none task kind x y (Some lefts) None bx by p hx hy sx sy none = rw (paired_has kind task x y p, hx, hy) refl
-pair_none task kind x y (Some lefts) (Some rights) false by p hx hy sx sy none = rw (paired_has kind task x y p, paired_standard kind task x y p, hx, hy, sx) refl
-pair_none task kind x y (Some lefts) (Some rights) true false p hx hy sx sy none = rw (paired_has kind task x y p, paired_standard kind task x y p, hx, hy, sx, sy) refl
+pair_none : (task : TaskParts) (kind : Pairing) (x y : Tree) (ox oy : Option (List Row)) (bx by : Bool) (p : Pred) → rows task.inputs task.constants x ≡ ox → rows task.inputs task.constants y ≡ oy → is_standard_tree task x ≡ bx → is_standard_tree task y ≡ by
+    → (is_some ox && bx) && (is_some oy && by) ≡ false → filled_of task (t.pair kind x y p) ≡ []
+pair_none task kind x y None oy bx by p hx hy sx sy none = rw (hx) refl
+pair_none task kind x y (Some lefts) None bx by p hx hy sx sy none = rw (hx, hy) refl
+pair_none task kind x y (Some lefts) (Some rights) false by p hx hy sx sy none = rw (hx, hy, sx) refl
+pair_none task kind x y (Some lefts) (Some rights) true false p hx hy sx sy none = rw (hx, hy, sx, sy) refl
 pair_none task kind x y (Some lefts) (Some rights) true true p hx hy sx sy none = cc
 
 -- the pairs of two parts, one for each predicate
-abbrev pairs_filled : TaskParts → Pairing → Tree → Tree → List Tree
-pairs_filled task kind x y = map (paired kind x y) (predicates task (columns task x ++ columns task y))
-
-pairs_none : (task : TaskParts) (kind : Pairing) (x y : Tree) (ox oy : Option (List Row)) (bx by : Bool) → rows task x ≡ ox → rows task y ≡ oy → is_standard_tree task x ≡ bx → is_standard_tree task y ≡ by
+pairs_none : (task : TaskParts) (kind : Pairing) (x y : Tree) (ox oy : Option (List Row)) (bx by : Bool) → rows task.inputs task.constants x ≡ ox → rows task.inputs task.constants y ≡ oy → is_standard_tree task x ≡ bx → is_standard_tree task y ≡ by
     → (is_some ox && bx) && (is_some oy && by) ≡ false → flat_map (filled_of task) (pairs_filled task kind x y) ≡ []
 pairs_none task kind x y ox oy bx by hx hy sx sy none =
-    flat_map_of_map (filled_of task) (paired kind x y) (predicates task (columns task x ++ columns task y))
-    ∙ flat_map_none (λ p. filled_of task (paired kind x y p)) (predicates task (columns task x ++ columns task y)) (λ p. pair_none task kind x y ox oy bx by p hx hy sx sy none)
+    flat_map_of_map (filled_of task) (t.pair kind x y) (predicates task (hole_types task.inputs x y))
+    ∙ flat_map_none (λ p. filled_of task (t.pair kind x y p)) (predicates task (hole_types task.inputs x y)) (λ p. pair_none task kind x y ox oy bx by p hx hy sx sy none)
 
-pairs_some : (task : TaskParts) (kind : Pairing) (x y : Tree) (lefts rights : List Row) → rows task x ≡ Some lefts → rows task y ≡ Some rights → is_standard_tree task x ≡ true → is_standard_tree task y ≡ true
+pairs_some : (task : TaskParts) (kind : Pairing) (x y : Tree) (lefts rights : List Row) → rows task.inputs task.constants x ≡ Some lefts → rows task.inputs task.constants y ≡ Some rights → is_standard_tree task x ≡ true → is_standard_tree task y ≡ true
     → flat_map (filled_of task) (pairs_filled task kind x y) ≡ pairs_on task kind (filling task x) (filling task y)
 pairs_some task kind x y lefts rights hx hy sx sy =
-    let preds = predicates task (columns task x ++ columns task y) in
-    let made : Pred → Filled = λ p. pair_filled task kind (filling task x) (filling task y) (choice preds p) in
-    flat_map_of_map (filled_of task) (paired kind x y) preds
-    ∙ flat_map_same (λ p. filled_of task (paired kind x y p)) (λ p. single (is_standard_pair task x y p) (made p)) preds (λ p. pair_by task kind x y lefts rights p hx hy sx sy)
+    let preds = predicates task (hole_types task.inputs x y) in
+    let made : Pred → Filled = λ p. pair_filled task.constants kind (filling task x) (filling task y) (choice preds p) in
+    flat_map_of_map (filled_of task) (t.pair kind x y) preds
+    ∙ flat_map_same (λ p. filled_of task (t.pair kind x y p)) (λ p. single (is_standard_pair task x y p) (made p)) preds (λ p. pair_by task kind x y lefts rights p hx hy sx sy)
     ∙ flat_map_singles made (is_standard_pair task x y) preds
-    ∙ sym (map_twice (pair_filled task kind (filling task x) (filling task y)) (choice preds) (list_filter (is_standard_pair task x y) preds))
+    ∙ sym (map_twice (pair_filled task.constants kind (filling task x) (filling task y)) (choice preds) (list_filter (is_standard_pair task x y) preds))
 
-pairs_of : (task : TaskParts) (kind : Pairing) (x y : Tree) (ox oy : Option (List Row)) (bx by : Bool) → rows task x ≡ ox → rows task y ≡ oy → is_standard_tree task x ≡ bx → is_standard_tree task y ≡ by
+pairs_of : (task : TaskParts) (kind : Pairing) (x y : Tree) (ox oy : Option (List Row)) (bx by : Bool) → rows task.inputs task.constants x ≡ ox → rows task.inputs task.constants y ≡ oy → is_standard_tree task x ≡ bx → is_standard_tree task y ≡ by
     → flat_map (filled_of task) (pairs_filled task kind x y) ≡ flat_map (λ u. flat_map (pairs_on task kind u) (filled_of task y)) (filled_of task x)
 pairs_of task kind x y None oy bx by hx hy sx sy = pairs_none task kind x y None oy bx by hx hy sx sy refl ∙ rw hx refl
 pairs_of task kind x y (Some lefts) oy false by hx hy sx sy = pairs_none task kind x y (Some lefts) oy false by hx hy sx sy refl ∙ rw (hx, sx) refl
@@ -169,10 +147,10 @@ pairs_of task kind x y (Some lefts) (Some rights) true true hx hy sx sy =
 pairs_up : (task : TaskParts) (kind : Pairing) (xs ys : List Tree)
     → flat_map (filled_of task) (flat_map (λ x. flat_map (pairs_filled task kind x) ys) xs) ≡ flat_map (λ u. flat_map (pairs_on task kind u) (flat_map (filled_of task) ys)) (flat_map (filled_of task) xs)
 pairs_up task kind xs ys =
-    of_each_filled_is (filled_of task) (pairs_filled task kind) (pairs_on task kind) (is_filled task) (filling task) xs ys (λ x. refl) (λ x y. pairs_of task kind x y (rows task x) (rows task y) (is_standard_tree task x) (is_standard_tree task y) refl refl refl refl)
+    of_each_filled_is (filled_of task) (pairs_filled task kind) (pairs_on task kind) (is_filled task) (filling task) xs ys (λ x. refl) (λ x y. pairs_of task kind x y (rows task.inputs task.constants x) (rows task.inputs task.constants y) (is_standard_tree task x) (is_standard_tree task y) refl refl refl refl)
 
 -- a group over a child
-group_of : (task : TaskParts) (keys : List ℕ) (agg : Agg) (x : Tree) (o : Option (List Row)) (b : Bool) → rows task x ≡ o → is_standard_tree task x ≡ b
+group_of : (task : TaskParts) (keys : List ℕ) (agg : Agg) (x : Tree) (o : Option (List Row)) (b : Bool) → rows task.inputs task.constants x ≡ o → is_standard_tree task x ≡ b
     → filled_of task (t.group x keys agg) ≡ flat_map (groups_on keys agg) (filled_of task x)
 group_of task keys agg x None b has standard = rw has refl
 group_of task keys agg x (Some found) b has standard = grouped_of (grouped keys agg found) refl b standard
@@ -184,36 +162,20 @@ group_of task keys agg x (Some found) b has standard = grouped_of (grouped keys 
     grouped_of (Some groups) is false s = rw (has, s, is) refl
 
 -- a union of two parts
-united_has : (kind : Uniting) (task : TaskParts) (x y : Tree) → rows task (united kind x y) ≡ of_both (united_rows kind) (rows task x) (rows task y)
-united_has All task x y = refl
-united_has Firsts task x y = refl
-
-united_standard : (kind : Uniting) (task : TaskParts) (x y : Tree) → is_standard_tree task (united kind x y) ≡ (is_standard_tree task x && is_standard_tree task y)
-united_standard All task x y = refl
-united_standard Firsts task x y = refl
-
-united_columns : (kind : Uniting) (task : TaskParts) (x y : Tree) → columns task (united kind x y) ≡ columns task x
-united_columns All task x y = refl
-united_columns Firsts task x y = refl
-
-united_numbers : (kind : Uniting) (task : TaskParts) (x y : Tree) → pred_numbers task (united kind x y) ≡ pred_numbers task x ++ pred_numbers task y
-united_numbers All task x y = refl
-united_numbers Firsts task x y = refl
-
-union_of : (task : TaskParts) (kind : Uniting) (x y : Tree) (ox oy : Option (List Row)) (bx by : Bool) → rows task x ≡ ox → rows task y ≡ oy → is_standard_tree task x ≡ bx → is_standard_tree task y ≡ by
-    → flat_map (filled_of task) (united kind x y ∷ []) ≡ flat_map (λ u. flat_map (unions_on kind u) (filled_of task y)) (filled_of task x)
-union_of task kind x y None oy bx by hx hy sx sy = rw (united_has kind task x y, hx) refl
-union_of task kind x y (Some lefts) None true by hx hy sx sy = rw (united_has kind task x y, hx, hy, sx) refl
-union_of task kind x y (Some lefts) None false by hx hy sx sy = rw (united_has kind task x y, hx, hy, sx) refl
-union_of task kind x y (Some lefts) (Some rights) false by hx hy sx sy = rw (united_has kind task x y, united_standard kind task x y, hx, hy, sx) refl
-union_of task kind x y (Some lefts) (Some rights) true false hx hy sx sy = rw (united_has kind task x y, united_standard kind task x y, hx, hy, sx, sy) refl
+union_of : (task : TaskParts) (kind : Uniting) (x y : Tree) (ox oy : Option (List Row)) (bx by : Bool) → rows task.inputs task.constants x ≡ ox → rows task.inputs task.constants y ≡ oy → is_standard_tree task x ≡ bx → is_standard_tree task y ≡ by
+    → flat_map (filled_of task) (t.unite kind x y ∷ []) ≡ flat_map (λ u. flat_map (unions_on kind u) (filled_of task y)) (filled_of task x)
+union_of task kind x y None oy bx by hx hy sx sy = rw (hx) refl
+union_of task kind x y (Some lefts) None true by hx hy sx sy = rw (hx, hy, sx) refl
+union_of task kind x y (Some lefts) None false by hx hy sx sy = rw (hx, hy, sx) refl
+union_of task kind x y (Some lefts) (Some rights) false by hx hy sx sy = rw (hx, hy, sx) refl
+union_of task kind x y (Some lefts) (Some rights) true false hx hy sx sy = rw (hx, hy, sx, sy) refl
 union_of task kind x y (Some lefts) (Some rights) true true hx hy sx sy =
-    rw (united_has kind task x y, united_standard kind task x y, united_columns kind task x y, united_numbers kind task x y, hx, hy, sx, sy) refl
+    rw (hx, hy, sx, sy) refl
 
 unions_up : (task : TaskParts) (kind : Uniting) (xs ys : List Tree)
-    → flat_map (filled_of task) (flat_map (λ x. flat_map (λ y. united kind x y ∷ []) ys) xs) ≡ flat_map (λ u. flat_map (unions_on kind u) (flat_map (filled_of task) ys)) (flat_map (filled_of task) xs)
+    → flat_map (filled_of task) (flat_map (λ x. flat_map (λ y. t.unite kind x y ∷ []) ys) xs) ≡ flat_map (λ u. flat_map (unions_on kind u) (flat_map (filled_of task) ys)) (flat_map (filled_of task) xs)
 unions_up task kind xs ys =
-    of_each_filled_is (filled_of task) (λ x y. united kind x y ∷ []) (unions_on kind) (is_filled task) (filling task) xs ys (λ x. refl) (λ x y. union_of task kind x y (rows task x) (rows task y) (is_standard_tree task x) (is_standard_tree task y) refl refl refl refl)
+    of_each_filled_is (filled_of task) (λ x y. t.unite kind x y ∷ []) (unions_on kind) (is_filled task) (filling task) xs ys (λ x. refl) (λ x y. union_of task kind x y (rows task.inputs task.constants x) (rows task.inputs task.constants y) (is_standard_tree task x) (is_standard_tree task y) refl refl refl refl)
 
 -- what a function gives of each filled part, where the parts' fillings are known
 of_parts : (f : Filled → Filled → List Filled) (xs ys us vs : List Filled) → xs ≡ us → ys ≡ vs → flat_map (λ x. flat_map (f x) ys) xs ≡ flat_map (λ u. flat_map (f u) vs) us
@@ -224,19 +186,15 @@ pub filled_up_is : (task : TaskParts) (s : Tree) → flat_map (filled_of task) (
 filled_up_is task (t.base table) = refl
 filled_up_is task (t.filter child p) =
     flat_map_twice (filled_of task) (filters_filled task) (fillings task child)
-    ∙ flat_map_same (λ x. flat_map (filled_of task) (filters_filled task x)) (λ x. flat_map (filters_on task) (filled_of task x)) (fillings task child) (λ x. filters_of task x (rows task x) (is_standard_tree task x) refl refl)
+    ∙ flat_map_same (λ x. flat_map (filled_of task) (filters_filled task x)) (λ x. flat_map (filters_on task) (filled_of task x)) (fillings task child) (λ x. filters_of task x (rows task.inputs task.constants x) (is_standard_tree task x) refl refl)
     ∙ sym (flat_map_twice (filters_on task) (filled_of task) (fillings task child))
     ∙ ap (flat_map (filters_on task)) (filled_up_is task child)
-filled_up_is task (t.join a b p) =
-    pairs_up task Join (fillings task a) (fillings task b) ∙ of_parts (pairs_on task Join) _ _ _ _ (filled_up_is task a) (filled_up_is task b)
-filled_up_is task (t.left a b p) =
-    pairs_up task Left (fillings task a) (fillings task b) ∙ of_parts (pairs_on task Left) _ _ _ _ (filled_up_is task a) (filled_up_is task b)
+filled_up_is task (t.pair kind a b p) =
+    pairs_up task kind (fillings task a) (fillings task b) ∙ of_parts (pairs_on task kind) _ _ _ _ (filled_up_is task a) (filled_up_is task b)
 filled_up_is task (t.group child keys agg) =
     flat_map_of_map (filled_of task) (λ c. t.group c keys agg) (fillings task child)
-    ∙ flat_map_same (λ x. filled_of task (t.group x keys agg)) (λ x. flat_map (groups_on keys agg) (filled_of task x)) (fillings task child) (λ x. group_of task keys agg x (rows task x) (is_standard_tree task x) refl refl)
+    ∙ flat_map_same (λ x. filled_of task (t.group x keys agg)) (λ x. flat_map (groups_on keys agg) (filled_of task x)) (fillings task child) (λ x. group_of task keys agg x (rows task.inputs task.constants x) (is_standard_tree task x) refl refl)
     ∙ sym (flat_map_twice (groups_on keys agg) (filled_of task) (fillings task child))
     ∙ ap (flat_map (groups_on keys agg)) (filled_up_is task child)
-filled_up_is task (t.union_all a b) =
-    unions_up task All (fillings task a) (fillings task b) ∙ of_parts (unions_on All) _ _ _ _ (filled_up_is task a) (filled_up_is task b)
-filled_up_is task (t.union a b) =
-    unions_up task Firsts (fillings task a) (fillings task b) ∙ of_parts (unions_on Firsts) _ _ _ _ (filled_up_is task a) (filled_up_is task b)
+filled_up_is task (t.unite kind a b) =
+    unions_up task kind (fillings task a) (fillings task b) ∙ of_parts (unions_on kind) _ _ _ _ (filled_up_is task a) (filled_up_is task b)

@@ -50,11 +50,11 @@ abbrev query_of : Tree → List ℕ → Bool → Select
 query_of body picks distinct = record { body = body; picks = picks; distinct = distinct }
 
 -- what is kept of one query
-kept_one : (task : TaskParts) (n : ℕ) (x : Tree) (picks : List ℕ) (distinct : Bool) (found : List Row) → rows task x ≡ Some found → is_standard_tree task x ≡ true
+kept_one : (task : TaskParts) (n : ℕ) (x : Tree) (picks : List ℕ) (distinct : Bool) (found : List Row) → rows task.inputs task.constants x ≡ Some found → is_standard_tree task x ≡ true
     → is_answer task (numbered_as n (query_of x picks distinct)) ≡ ((not distinct || has_double (selected picks (rows_or_none task x))) && ((length picks == length task.output.columns) && same_rows (given_rows picks distinct (rows_or_none task x)) task.output.rows))
 kept_one task n x picks distinct found has standard = rw (has, standard) refl
 
-kept_single : (task : TaskParts) (n : ℕ) (x : Tree) (picks : List ℕ) (distinct : Bool) (found : List Row) → rows task x ≡ Some found → is_standard_tree task x ≡ true
+kept_single : (task : TaskParts) (n : ℕ) (x : Tree) (picks : List ℕ) (distinct : Bool) (found : List Row) → rows task.inputs task.constants x ≡ Some found → is_standard_tree task x ≡ true
     → kept task n (query_of x picks distinct ∷ []) ≡ kept_query task n (filling task x) picks distinct
 kept_single task n x picks distinct found has standard = rw (kept_one task n x picks distinct found has standard) (answer_or_not _)
   where
@@ -73,28 +73,28 @@ kept_of_joined task n f [] = refl
 kept_of_joined task n f (x ∷ xs) = kept_append task n (f x) (flat_map f xs) ∙ ap (λ t. kept task n (f x) ++ t) (kept_of_joined task n f xs)
 
 -- what is kept of the queries of a tree that is standard and has rows
-kept_some : (task : TaskParts) (n : ℕ) (x : Tree) (found : List Row) → rows task x ≡ Some found → is_standard_tree task x ≡ true → kept task n (queries_of_body task x) ≡ kept_on task n (filling task x)
+kept_some : (task : TaskParts) (n : ℕ) (x : Tree) (found : List Row) → rows task.inputs task.constants x ≡ Some found → is_standard_tree task x ≡ true → kept task n (queries_of_body task x) ≡ kept_on task n (filling task x)
 kept_some task n x found has standard =
-    kept_of_joined task n (with_flags x) (maps (columns task x) (types_of task.output))
-    ∙ flat_map_same (λ picks. kept task n (with_flags x picks)) (kept_map task n (filling task x)) (maps (columns task x) (types_of task.output))
+    kept_of_joined task n (with_flags x) (maps (columns task.inputs x) (types_of task.output))
+    ∙ flat_map_same (λ picks. kept task n (with_flags x picks)) (kept_map task n (filling task x)) (maps (columns task.inputs x) (types_of task.output))
     (λ picks. kept_append task n (query_of x picks false ∷ []) (query_of x picks true ∷ [])
     ∙ ap (λ t. t ++ kept task n (query_of x picks true ∷ [])) (kept_single task n x picks false found has standard)
     ∙ ap (λ t. kept_query task n (filling task x) picks false ++ t) (kept_single task n x picks true found has standard))
 
 -- what is kept of the queries of any other tree
-none_answers : (task : TaskParts) (n : ℕ) (x : Tree) (picks : List ℕ) (distinct : Bool) (o : Option (List Row)) (b : Bool) → rows task x ≡ o → is_standard_tree task x ≡ b → is_some o && b ≡ false
+none_answers : (task : TaskParts) (n : ℕ) (x : Tree) (picks : List ℕ) (distinct : Bool) (o : Option (List Row)) (b : Bool) → rows task.inputs task.constants x ≡ o → is_standard_tree task x ≡ b → is_some o && b ≡ false
     → is_answer task (numbered_as n (query_of x picks distinct)) ≡ false
 none_answers task n x picks distinct o false has standard not_both = rw standard refl
 none_answers task n x picks distinct (Some found) true has standard not_both = cc
 none_answers task n x picks distinct None true has standard not_both = rw (has, standard) (and_false _)
 
-kept_none : (task : TaskParts) (n : ℕ) (x : Tree) (o : Option (List Row)) (b : Bool) → rows task x ≡ o → is_standard_tree task x ≡ b → is_some o && b ≡ false → kept task n (queries_of_body task x) ≡ []
+kept_none : (task : TaskParts) (n : ℕ) (x : Tree) (o : Option (List Row)) (b : Bool) → rows task.inputs task.constants x ≡ o → is_standard_tree task x ≡ b → is_some o && b ≡ false → kept task n (queries_of_body task x) ≡ []
 kept_none task n x o b has standard not_both =
-    kept_of_joined task n (with_flags x) (maps (columns task x) (types_of task.output))
-    ∙ flat_map_none (λ picks. kept task n (with_flags x picks)) (maps (columns task x) (types_of task.output))
+    kept_of_joined task n (with_flags x) (maps (columns task.inputs x) (types_of task.output))
+    ∙ flat_map_none (λ picks. kept task n (with_flags x picks)) (maps (columns task.inputs x) (types_of task.output))
     (λ picks. rw (none_answers task n x picks false o b has standard not_both, none_answers task n x picks true o b has standard not_both) refl)
 
-kept_body : (task : TaskParts) (n : ℕ) (x : Tree) (o : Option (List Row)) (b : Bool) → rows task x ≡ o → is_standard_tree task x ≡ b → kept task n (queries_of_body task x) ≡ flat_map (kept_on task n) (filled_of task x)
+kept_body : (task : TaskParts) (n : ℕ) (x : Tree) (o : Option (List Row)) (b : Bool) → rows task.inputs task.constants x ≡ o → is_standard_tree task x ≡ b → kept task n (queries_of_body task x) ≡ flat_map (kept_on task n) (filled_of task x)
 kept_body task n x None b has standard = kept_none task n x None b has standard refl ∙ rw has refl
 kept_body task n x (Some found) false has standard = kept_none task n x (Some found) false has standard refl ∙ rw (has, standard) refl
 kept_body task n x (Some found) true has standard =
@@ -105,7 +105,7 @@ kept_body task n x (Some found) true has standard =
 kept_skeleton : (task : TaskParts) (s : ℕ × Tree) → kept task s.0 (queries_of task s.1) ≡ kept_of task s
 kept_skeleton task s =
     kept_of_joined task s.0 (queries_of_body task) (fillings task s.1)
-    ∙ flat_map_same (λ x. kept task s.0 (queries_of_body task x)) (λ x. flat_map (kept_on task s.0) (filled_of task x)) (fillings task s.1) (λ x. kept_body task s.0 x (rows task x) (is_standard_tree task x) refl refl)
+    ∙ flat_map_same (λ x. kept task s.0 (queries_of_body task x)) (λ x. flat_map (kept_on task s.0) (filled_of task x)) (fillings task s.1) (λ x. kept_body task s.0 x (rows task.inputs task.constants x) (is_standard_tree task x) refl refl)
     ∙ sym (flat_map_twice (kept_on task s.0) (filled_of task) (fillings task s.1))
     ∙ ap (flat_map (kept_on task s.0)) (filled_up_is task s.1)
 

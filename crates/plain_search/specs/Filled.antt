@@ -2,23 +2,21 @@
 use Rattle.std.specs.Prelude.{ℕ, Bool, not, List, [], ◌∷◌, ◌++◌, map, flat_map, length, Option, Some, None, option_map, if◌then◌else◌}
 use Rattle.std.specs.Prelude.{filter as list_filter}
 use Rattle.value_core.specs.declared.value.ColType.{ColType}
+use Rattle.value_core.specs.declared.value.Value.{Value}
 use Rattle.predicate_core.specs.Truth.{keeps}
-use Rattle.table_core.specs.Rows.{Row, types_of}
+use Rattle.table_core.specs.Rows.{Row, TableData, types_of}
 use Rattle.table_core.specs.declared.task.TaskParts.{TaskParts}
 use Rattle.query_core.specs.Tree.{Tree}
 use Rattle.query_core.specs.Tree as t
-use Rattle.query_core.specs.Firsts.{firsts}
-use Rattle.query_core.specs.Joins.{crossed, joined, left_joined}
+use Rattle.query_core.specs.Firsts.{united}
+use Rattle.query_core.specs.Joins.{crossed, paired}
 use Rattle.query_core.specs.Groups.{grouped}
 use Rattle.query_core.specs.Meaning.{input_at, group_types}
 use Rattle.query_core.specs.Grammar.{predicates}
 use Rattle.query_core.specs.Standard.{keeps_all}
 use Rattle.query_core.specs.declared.agg.Agg.{Agg}
-use Rattle.predicate_core.specs.declared.pred.Pred.{Pred}
-use Rattle.plain_search.specs.declared.kinds.Pairing.{Pairing}
-use Rattle.plain_search.specs.declared.kinds.Pairing.TheVariants.{Join, Left}
-use Rattle.plain_search.specs.declared.kinds.Uniting.{Uniting}
-use Rattle.plain_search.specs.declared.kinds.Uniting.TheVariants.{All, Firsts}
+use Rattle.query_core.specs.declared.kinds.Pairing.{Pairing}
+use Rattle.query_core.specs.declared.kinds.Uniting.{Uniting}
 use Rattle.hole_choices.specs.Choices.{choices_of}
 use Rattle.hole_choices.specs.declared.choice.Choice.{Choice}
 
@@ -30,25 +28,25 @@ pub record Filled : Type 0 where
   pub rows : List Row
 
 -- an input
-abbrev pub base_filled : TaskParts → ℕ → Filled
-base_filled task table = record { tree = t.base table; types = types_of (input_at task table); numbers = []; rows = (input_at task table).rows }
+abbrev pub base_filled : List TableData → ℕ → Filled
+base_filled inputs table = record { tree = t.base table; types = types_of (input_at inputs table); numbers = []; rows = (input_at inputs table).rows }
 
 -- a filter by a choice over a filled child
-abbrev pub filter_filled : TaskParts → Filled → Choice → Filled
-filter_filled task c choice = record {
+abbrev pub filter_filled : List Value → Filled → Choice → Filled
+filter_filled constants c choice = record {
   tree = t.filter c.tree choice.pred;
   types = c.types;
   numbers = c.numbers ++ choice.number ∷ [];
-  rows = list_filter (keeps task.constants choice.pred) c.rows;
+  rows = list_filter (keeps constants choice.pred) c.rows;
 }
 
 -- whether a choice leaves out some of a filled child's rows
-abbrev pub drops_some : TaskParts → Filled → Choice → Bool
-drops_some task c choice = not (keeps_all task.constants c.rows choice.pred)
+abbrev pub drops_some : List Value → Filled → Choice → Bool
+drops_some constants c choice = not (keeps_all constants c.rows choice.pred)
 
 -- the filter by a choice over a filled child, where the choice leaves out some rows
-abbrev pub filter_on : TaskParts → Filled → Choice → List Filled
-filter_on task c choice = if drops_some task c choice then filter_filled task c choice ∷ [] else []
+abbrev pub filter_on : List Value → Filled → Choice → List Filled
+filter_on constants c choice = if drops_some constants c choice then filter_filled constants c choice ∷ [] else []
 
 -- the choices of the predicate of a filter over a filled child
 abbrev pub child_choices : TaskParts → Filled → List Choice
@@ -56,34 +54,24 @@ child_choices task c = choices_of task.constants c.rows (predicates task c.types
 
 -- the standard filters over a filled child
 abbrev pub filters_on : TaskParts → Filled → List Filled
-filters_on task c = flat_map (filter_on task c) (child_choices task c)
+filters_on task c = flat_map (filter_on task.constants c) (child_choices task c)
 
 -- the choices of the predicate of two filled parts
 abbrev pub pair_choices : TaskParts → Filled → Filled → List Choice
 pair_choices task a b = choices_of task.constants (crossed a.rows b.rows) (predicates task (a.types ++ b.types))
 
--- a join of two trees, or a left join
-abbrev pub paired : Pairing → Tree → Tree → Pred → Tree
-paired Join a b p = t.join a b p
-paired Left a b p = t.left a b p
-
--- its rows; the right part has so many columns
-abbrev pub paired_rows : Pairing → TaskParts → Pred → ℕ → List Row → List Row → List Row
-paired_rows Join task p width lefts rights = joined task.constants p lefts rights
-paired_rows Left task p width lefts rights = left_joined task.constants p width lefts rights
-
--- a join or a left join of two filled parts by a choice
-abbrev pub pair_filled : TaskParts → Pairing → Filled → Filled → Choice → Filled
-pair_filled task kind a b choice = record {
-  tree = paired kind a.tree b.tree choice.pred;
+-- a pair of two filled parts by a choice
+abbrev pub pair_filled : List Value → Pairing → Filled → Filled → Choice → Filled
+pair_filled constants kind a b choice = record {
+  tree = t.pair kind a.tree b.tree choice.pred;
   types = a.types ++ b.types;
   numbers = (a.numbers ++ b.numbers) ++ choice.number ∷ [];
-  rows = paired_rows kind task choice.pred (length b.types) a.rows b.rows;
+  rows = paired kind constants choice.pred (length b.types) a.rows b.rows;
 }
 
 -- the standard ones
 abbrev pub pairs_on : TaskParts → Pairing → Filled → Filled → List Filled
-pairs_on task kind a b = map (pair_filled task kind a b) (pair_choices task a b)
+pairs_on task kind a b = map (pair_filled task.constants kind a b) (pair_choices task a b)
 
 -- a group over a filled child, with the rows of its groups
 abbrev pub group_filled : List ℕ → Agg → Filled → List Row → Filled
@@ -98,19 +86,9 @@ as_list (Some x) = x ∷ []
 abbrev pub groups_on : List ℕ → Agg → Filled → List Filled
 groups_on keys agg c = as_list (option_map (group_filled keys agg c) (grouped keys agg c.rows))
 
--- a union of two trees, with all copies or with first copies
-abbrev pub united : Uniting → Tree → Tree → Tree
-united All a b = t.union_all a b
-united Firsts a b = t.union a b
-
--- its rows
-abbrev pub united_rows : Uniting → List Row → List Row → List Row
-united_rows All xs ys = xs ++ ys
-united_rows Firsts xs ys = firsts (xs ++ ys)
-
 -- a union of two filled parts
 abbrev pub union_filled : Uniting → Filled → Filled → Filled
-union_filled kind a b = record { tree = united kind a.tree b.tree; types = a.types; numbers = a.numbers ++ b.numbers; rows = united_rows kind a.rows b.rows }
+union_filled kind a b = record { tree = t.unite kind a.tree b.tree; types = a.types; numbers = a.numbers ++ b.numbers; rows = united kind a.rows b.rows }
 
 abbrev pub unions_on : Uniting → Filled → Filled → List Filled
 unions_on kind a b = union_filled kind a b ∷ []
@@ -121,10 +99,8 @@ of_each_filled f xs ys = flat_map (λ x. flat_map (f x) ys) xs
 
 -- the standard fillings of a skeleton that have rows, in order
 abbrev pub filled_up : TaskParts → Tree → List Filled
-filled_up task (t.base table) = base_filled task table ∷ []
+filled_up task (t.base table) = base_filled task.inputs table ∷ []
 filled_up task (t.filter child p) = flat_map (filters_on task) (filled_up task child)
-filled_up task (t.join a b p) = of_each_filled (pairs_on task Join) (filled_up task a) (filled_up task b)
-filled_up task (t.left a b p) = of_each_filled (pairs_on task Left) (filled_up task a) (filled_up task b)
+filled_up task (t.pair kind a b p) = of_each_filled (pairs_on task kind) (filled_up task a) (filled_up task b)
 filled_up task (t.group child keys agg) = flat_map (groups_on keys agg) (filled_up task child)
-filled_up task (t.union_all a b) = of_each_filled (unions_on All) (filled_up task a) (filled_up task b)
-filled_up task (t.union a b) = of_each_filled (unions_on Firsts) (filled_up task a) (filled_up task b)
+filled_up task (t.unite kind a b) = of_each_filled (unions_on kind) (filled_up task a) (filled_up task b)

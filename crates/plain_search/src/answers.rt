@@ -11,13 +11,13 @@ use query_core::Query;
 use rank_core::{Ranked, key};
 use sqlite_items::Items;
 use std::alloc::Global;
-use table_core::TaskParts;
+use table_core::Task;
 use value_core::{OutOfMemory, copied};
 
 // Whether the query of this body, map and flag is an answer.
 fn is_answer(
     alloc: Global,
-    task: &TaskParts,
+    task: &Task,
     body: &Body,
     picks: &[usize],
     distinct: bool,
@@ -27,7 +27,7 @@ fn is_answer(
     if distinct && !has_double_selected(picks, body.rows.as_slice()) {
         return Ok(false);
     }
-    if picks.len() != task.output.columns().len() {
+    if picks.len() != task.output().columns().len() {
         return Ok(false);
     }
     gives_rows(
@@ -35,14 +35,14 @@ fn is_answer(
         picks,
         distinct,
         body.rows.as_slice(),
-        task.output.tuples(),
+        task.output().tuples(),
     )
 }
 
 // The query of this body, map and flag, with its key.
 fn ranked(
     alloc: Global,
-    task: &TaskParts,
+    task: &Task,
     skeleton: u32,
     body: &Body,
     picks: &[usize],
@@ -55,14 +55,20 @@ fn ranked(
         map: copied(alloc, picks)?,
         distinct,
     };
-    let key = key(alloc, task, skeleton, &query, body.numbers.as_slice())?;
+    let key = key(
+        alloc,
+        task.parts(),
+        skeleton,
+        &query,
+        body.numbers.as_slice(),
+    )?;
     Ok(Ranked { key, query })
 }
 
 // Appends the query of this body, map and flag, if it is an answer.
 fn push_query(
     alloc: Global,
-    task: &TaskParts,
+    task: &Task,
     skeleton: u32,
     body: &Body,
     picks: &[usize],
@@ -72,17 +78,15 @@ fn push_query(
     ensures { OnOk result (map ranked_query out.new.items ≡ map ranked_query out.old.items ++ kept_query task.now skeleton (filled body.now) picks.now distinct) }
 {
     if is_answer(alloc, task, body, picks, distinct)? {
-        out.push(ranked(alloc, task, skeleton, body, picks, distinct)?)
-            .map_err(|_| OutOfMemory)
-    } else {
-        Ok(())
+        out.push(ranked(alloc, task, skeleton, body, picks, distinct)?)?;
     }
+    Ok(())
 }
 
 // Appends the answers of this body and map, with and without removal of duplicates.
 fn push_map(
     alloc: Global,
-    task: &TaskParts,
+    task: &Task,
     skeleton: u32,
     body: &Body,
     picks: &[usize],
@@ -97,7 +101,7 @@ fn push_map(
 // Appends the answers of this body with each of these maps.
 fn push_answers(
     alloc: Global,
-    task: &TaskParts,
+    task: &Task,
     skeleton: u32,
     body: &Body,
     maps: &[Items<usize>],
@@ -115,7 +119,7 @@ fn push_answers(
 #[tactic(auto, using(crate::proofs::RootLaws::kept_fitting))]
 pub fn push_body(
     alloc: Global,
-    task: &TaskParts,
+    task: &Task,
     skeleton: u32,
     body: &Body,
     out: &mut Vec<Ranked>,
@@ -123,14 +127,14 @@ pub fn push_body(
     ensures { OnOk result (map ranked_query out.new.items ≡ map ranked_query out.old.items ++ kept_on task.now skeleton (filled body.now)) }
 {
     let (types, rows) = (body.types.as_slice(), body.rows.as_slice());
-    let maps = fitting_maps(alloc, types, rows, &task.output)?;
+    let maps = fitting_maps(alloc, types, rows, task.output())?;
     push_answers(alloc, task, skeleton, body, maps.as_slice(), out)
 }
 
 /// Appends the answers of this body, if there is one.
 pub fn push_some(
     alloc: Global,
-    task: &TaskParts,
+    task: &Task,
     skeleton: u32,
     body: Option<Body>,
     out: &mut Vec<Ranked>,

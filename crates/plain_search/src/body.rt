@@ -1,19 +1,19 @@
 ghost use Rattle.std.specs.Prelude.{◌≡◌, ◌∷◌, ◌++◌, [], IfOk, option_map, length};
 ghost use Rattle.query_core.specs.Groups.{grouped};
+ghost use Rattle.query_core.specs.Joins.{paired};
 ghost use Rattle.query_core.specs.View.{tree};
-ghost use Rattle.plain_search.specs.Filled.{base_filled, filter_filled, pair_filled, paired, paired_rows, group_filled, union_filled, united, united_rows};
+ghost use Rattle.plain_search.specs.Filled.{base_filled, filter_filled, pair_filled, group_filled, union_filled};
 ghost use Rattle.plain_search.specs.View.{filled};
 
 use crate::columns::input_rows;
-use crate::kinds::{Pairing, Uniting};
-use bag_eval::{append_rows, group_tuples, join_pairs, keep_rows, left_join_pairs, union_firsts};
+use bag_eval::{group_tuples, join_pairs, keep_rows, left_join_pairs, unite_rows};
 use hole_choices::Choice;
 use predicate_core::Pred;
-use query_core::{Agg, Node, group_types, input_types};
+use query_core::{Agg, Node, Pairing, Uniting, group_types, input_types};
 use sqlite_items::Items;
 use std::alloc::Global;
-use table_core::{TaskParts, Tuple};
-use value_core::{ColType, OutOfMemory, copied, concatenated};
+use table_core::{Table, Tuple};
+use value_core::{ColType, OutOfMemory, Value, concatenated, copied};
 
 /// A tree whose predicates are all filled, with its columns' types, its predicates' numbers and its rows.
 #[derive(Debug, Drop)]
@@ -24,74 +24,34 @@ pub struct Body {
     pub rows: Items<Tuple>,
 }
 
-// A join or a left join of copies of two nodes.
-fn paired(alloc: Global, kind: Pairing, a: &Node, b: &Node, pred: Pred) -> Result<Node, OutOfMemory>
-    ensures { IfOk result (λ n. tree n ≡ paired kind (tree a.now) (tree b.now) pred) }
-{
-    let a = a.boxed(alloc)?;
-    let b = b.boxed(alloc)?;
-    match kind {
-        Pairing::Join => Ok(Node::Join(a, b, pred)),
-        Pairing::Left => Ok(Node::Left(a, b, pred)),
-    }
-}
-
-// The rows of a join or a left join, whose right part has so many columns.
-fn paired_rows(
+// The rows of a pair of parts, of which the right one has so many columns.
+fn paired(
     alloc: Global,
     kind: Pairing,
-    task: &TaskParts,
+    constants: &[Value],
     pred: &Pred,
     width: usize,
     lefts: &[Tuple],
     rights: &[Tuple],
 ) -> Result<Items<Tuple>, OutOfMemory>
-    ensures { IfOk result (λ rows. rows ≡ paired_rows kind task.now pred.now width lefts.now rights.now) }
+    ensures { IfOk result (λ rows. rows ≡ paired kind constants.now pred.now width lefts.now rights.now) }
 {
-    let constants = task.constants.as_slice();
     match kind {
         Pairing::Join => join_pairs(alloc, constants, lefts, rights, pred),
         Pairing::Left => left_join_pairs(alloc, constants, width, lefts, rights, pred),
     }
 }
 
-// A union of copies of two nodes.
-fn united(alloc: Global, kind: Uniting, a: &Node, b: &Node) -> Result<Node, OutOfMemory>
-    ensures { IfOk result (λ n. tree n ≡ united kind (tree a.now) (tree b.now)) }
-{
-    let a = a.boxed(alloc)?;
-    let b = b.boxed(alloc)?;
-    match kind {
-        Uniting::All => Ok(Node::UnionAll(a, b)),
-        Uniting::Firsts => Ok(Node::Union(a, b)),
-    }
-}
-
-// The rows of a union.
-fn united_rows(
-    alloc: Global,
-    kind: Uniting,
-    xs: &[Tuple],
-    ys: &[Tuple],
-) -> Result<Items<Tuple>, OutOfMemory>
-    ensures { IfOk result (λ rows. rows ≡ united_rows kind xs.now ys.now) }
-{
-    match kind {
-        Uniting::All => append_rows(alloc, xs, ys),
-        Uniting::Firsts => union_firsts(alloc, xs, ys),
-    }
-}
-
 impl Body {
     /// An input.
-    pub fn base(alloc: Global, task: &TaskParts, table: u32) -> Result<Body, OutOfMemory>
-        ensures { IfOk result (λ b. filled b ≡ base_filled task.now table) }
+    pub fn base(alloc: Global, inputs: &[Table], table: u32) -> Result<Body, OutOfMemory>
+        ensures { IfOk result (λ b. filled b ≡ base_filled inputs.now table) }
     {
         Ok(Body {
             node: Node::Base(table),
-            types: input_types(alloc, task, table as usize)?,
+            types: input_types(alloc, inputs, table as usize)?,
             numbers: Items::new(alloc),
-            rows: input_rows(alloc, task, table as usize)?,
+            rows: input_rows(alloc, inputs, table as usize)?,
         })
     }
 
@@ -99,12 +59,11 @@ impl Body {
     pub fn filter(
         &self,
         alloc: Global,
-        task: &TaskParts,
+        constants: &[Value],
         choice: &Choice,
     ) -> Result<Body, OutOfMemory>
-        ensures { IfOk result (λ b. filled b ≡ filter_filled task.now (filled self.now) choice.now) }
+        ensures { IfOk result (λ b. filled b ≡ filter_filled constants.now (filled self.now) choice.now) }
     {
-        let constants = task.constants.as_slice();
         Ok(Body {
             node: Node::Filter(self.node.boxed(alloc)?, choice.pred),
             types: copied(alloc, self.types.as_slice())?,
@@ -113,26 +72,27 @@ impl Body {
         })
     }
 
-    /// A join or a left join of this body and another by a choice.
+    /// A pair of this body and another by a choice.
     pub fn pair(
         &self,
         alloc: Global,
-        task: &TaskParts,
+        constants: &[Value],
         kind: Pairing,
         other: &Body,
         choice: &Choice,
     ) -> Result<Body, OutOfMemory>
-        ensures { IfOk result (λ b. filled b ≡ pair_filled task.now kind (filled self.now) (filled other.now) choice.now) }
+        ensures { IfOk result (λ b. filled b ≡ pair_filled constants.now kind (filled self.now) (filled other.now) choice.now) }
     {
         let parts = concatenated(alloc, self.numbers.as_slice(), other.numbers.as_slice())?;
+        let (a, b) = (self.node.boxed(alloc)?, other.node.boxed(alloc)?);
         Ok(Body {
-            node: paired(alloc, kind, &self.node, &other.node, choice.pred)?,
+            node: Node::pair(kind, a, b, choice.pred),
             types: concatenated(alloc, self.types.as_slice(), other.types.as_slice())?,
             numbers: concatenated(alloc, parts.as_slice(), &[choice.number])?,
-            rows: paired_rows(
+            rows: paired(
                 alloc,
                 kind,
-                task,
+                constants,
                 &choice.pred,
                 other.types.len(),
                 self.rows.as_slice(),
@@ -167,11 +127,12 @@ impl Body {
     pub fn union(&self, alloc: Global, kind: Uniting, other: &Body) -> Result<Body, OutOfMemory>
         ensures { IfOk result (λ b. filled b ≡ union_filled kind (filled self.now) (filled other.now)) }
     {
+        let (a, b) = (self.node.boxed(alloc)?, other.node.boxed(alloc)?);
         Ok(Body {
-            node: united(alloc, kind, &self.node, &other.node)?,
+            node: Node::unite(kind, a, b),
             types: copied(alloc, self.types.as_slice())?,
             numbers: concatenated(alloc, self.numbers.as_slice(), other.numbers.as_slice())?,
-            rows: united_rows(alloc, kind, self.rows.as_slice(), other.rows.as_slice())?,
+            rows: unite_rows(alloc, kind, self.rows.as_slice(), other.rows.as_slice())?,
         })
     }
 }

@@ -3,7 +3,7 @@ ghost use Rattle.query_core.specs.Meaning.{input_at};
 
 use sqlite_items::Items;
 use std::alloc::Global;
-use table_core::{TaskParts, Tuple};
+use table_core::{Table, Tuple};
 use value_core::OutOfMemory;
 
 // Appends copies of these rows.
@@ -11,7 +11,7 @@ fn push_rows(alloc: Global, out: &mut Items<Tuple>, rows: &[Tuple]) -> Result<()
     ensures { OnOk result (out.new ≡ out.old ++ rows.now) }
 {
     for row in rows {
-        out.push(row.copy(alloc)?).map_err(|_| OutOfMemory)?;
+        out.push(row.copy(alloc)?)?;
     }
     Ok(())
 }
@@ -19,13 +19,13 @@ fn push_rows(alloc: Global, out: &mut Items<Tuple>, rows: &[Tuple]) -> Result<()
 /// Copies of an input's rows, none where there is no such input.
 pub fn input_rows(
     alloc: Global,
-    task: &TaskParts,
+    inputs: &[Table],
     number: usize,
 ) -> Result<Items<Tuple>, OutOfMemory>
-    ensures { IfOk result (λ rows. rows ≡ (input_at task.now number).rows) }
+    ensures { IfOk result (λ rows. rows ≡ (input_at inputs.now number).rows) }
 {
     let mut rows = Items::new(alloc);
-    if let Some(table) = task.inputs.get(number) {
+    if let Some(table) = inputs.get(number) {
         push_rows(alloc, &mut rows, table.tuples())?;
     }
     Ok(rows)

@@ -5,52 +5,43 @@ ghost use Rattle.plain_search.specs.Filled.{as_list, child_choices, pair_choices
 ghost use Rattle.plain_search.specs.View.{filled};
 
 use crate::body::Body;
-use crate::kinds::{Pairing, Uniting};
 use bag_eval::{cross_rows, keeps_all_rows};
 use hole_choices::{Choice, choices};
-use query_core::{Agg, Node};
+use query_core::{Agg, Node, Pairing, Uniting};
 use sqlite_items::Items;
 use std::alloc::Global;
-use table_core::TaskParts;
-use value_core::{OutOfMemory, concatenated};
+use table_core::Task;
+use value_core::{OutOfMemory, Value, concatenated};
 
 /// The choices of the predicate of a filter over this body.
-pub fn child_choices(
-    alloc: Global,
-    task: &TaskParts,
-    child: &Body,
-) -> Result<Items<Choice>, OutOfMemory>
-    requires some { 1 ≤ task.now.atoms }
-    requires few { task.now.atoms ≤ 3 }
+pub fn child_choices(alloc: Global, task: &Task, child: &Body) -> Result<Items<Choice>, OutOfMemory>
     ensures { IfOk result (λ cs. cs ≡ child_choices task.now (filled child.now)) }
 {
     choices(
         alloc,
-        task.constants.as_slice(),
+        task.constants(),
         child.types.as_slice(),
-        task.atoms,
+        task.atoms(),
         child.rows.as_slice(),
     )
 }
 
-/// The choices of the predicate of a join or a left join of two bodies.
+/// The choices of the predicate of a pair of two bodies.
 pub fn pair_choices(
     alloc: Global,
-    task: &TaskParts,
+    task: &Task,
     a: &Body,
     b: &Body,
 ) -> Result<Items<Choice>, OutOfMemory>
-    requires some { 1 ≤ task.now.atoms }
-    requires few { task.now.atoms ≤ 3 }
     ensures { IfOk result (λ cs. cs ≡ pair_choices task.now (filled a.now) (filled b.now)) }
 {
     let types = concatenated(alloc, a.types.as_slice(), b.types.as_slice())?;
     let pairs = cross_rows(alloc, a.rows.as_slice(), b.rows.as_slice())?;
     choices(
         alloc,
-        task.constants.as_slice(),
+        task.constants(),
         types.as_slice(),
-        task.atoms,
+        task.atoms(),
         pairs.as_slice(),
     )
 }
@@ -58,17 +49,16 @@ pub fn pair_choices(
 /// The filter by a choice over this body, where the choice leaves out some rows.
 pub fn filter_on(
     alloc: Global,
-    task: &TaskParts,
+    constants: &[Value],
     child: &Body,
     choice: &Choice,
 ) -> Result<Option<Body>, OutOfMemory>
-    ensures { IfOk result (λ o. as_list (option_map filled o) ≡ filter_on task.now (filled child.now) choice.now) }
+    ensures { IfOk result (λ o. as_list (option_map filled o) ≡ filter_on constants.now (filled child.now) choice.now) }
 {
-    let constants = task.constants.as_slice();
     if keeps_all_rows(constants, child.rows.as_slice(), &choice.pred) {
         return Ok(None);
     }
-    Ok(Some(child.filter(alloc, task, choice)?))
+    Ok(Some(child.filter(alloc, constants, choice)?))
 }
 
 // Appends a body, if there is one.
@@ -76,7 +66,7 @@ fn push_some(out: &mut Items<Body>, body: Option<Body>) -> Result<(), OutOfMemor
     ensures { OnOk result (map filled out.new ≡ map filled out.old ++ as_list (option_map filled body)) }
 {
     match body {
-        Some(body) => out.push(body).map_err(|_| OutOfMemory),
+        Some(body) => Ok(out.push(body)?),
         None => Ok(()),
     }
 }
@@ -84,29 +74,21 @@ fn push_some(out: &mut Items<Body>, body: Option<Body>) -> Result<(), OutOfMemor
 // Appends the standard filters over a body.
 fn push_filters(
     alloc: Global,
-    task: &TaskParts,
+    task: &Task,
     child: &Body,
     out: &mut Items<Body>,
 ) -> Result<(), OutOfMemory>
-    requires some { 1 ≤ task.now.atoms }
-    requires few { task.now.atoms ≤ 3 }
     ensures { OnOk result (map filled out.new ≡ map filled out.old ++ filters_on task.now (filled child.now)) }
 {
     let choices = child_choices(alloc, task, child)?;
     for choice in choices.as_slice() {
-        push_some(out, filter_on(alloc, task, child, choice)?)?;
+        push_some(out, filter_on(alloc, task.constants(), child, choice)?)?;
     }
     Ok(())
 }
 
 // The standard filters over these bodies.
-fn fill_filters(
-    alloc: Global,
-    task: &TaskParts,
-    children: &[Body],
-) -> Result<Items<Body>, OutOfMemory>
-    requires some { 1 ≤ task.now.atoms }
-    requires few { task.now.atoms ≤ 3 }
+fn fill_filters(alloc: Global, task: &Task, children: &[Body]) -> Result<Items<Body>, OutOfMemory>
     ensures { IfOk result (λ out. map filled out ≡ flat_map (filters_on task.now) (map filled children.now)) }
 {
     let mut out = Items::new(alloc);
@@ -116,23 +98,20 @@ fn fill_filters(
     Ok(out)
 }
 
-// Appends the standard joins or left joins of two bodies.
+// Appends the standard pairs of two bodies.
 fn push_pairs(
     alloc: Global,
-    task: &TaskParts,
+    task: &Task,
     kind: Pairing,
     a: &Body,
     b: &Body,
     out: &mut Items<Body>,
 ) -> Result<(), OutOfMemory>
-    requires some { 1 ≤ task.now.atoms }
-    requires few { task.now.atoms ≤ 3 }
     ensures { OnOk result (map filled out.new ≡ map filled out.old ++ pairs_on task.now kind (filled a.now) (filled b.now)) }
 {
     let choices = pair_choices(alloc, task, a, b)?;
     for choice in choices.as_slice() {
-        out.push(a.pair(alloc, task, kind, b, choice)?)
-            .map_err(|_| OutOfMemory)?;
+        out.push(a.pair(alloc, task.constants(), kind, b, choice)?)?;
     }
     Ok(())
 }
@@ -140,14 +119,12 @@ fn push_pairs(
 // Appends those of a body with each of these.
 fn push_pairs_with(
     alloc: Global,
-    task: &TaskParts,
+    task: &Task,
     kind: Pairing,
     a: &Body,
     others: &[Body],
     out: &mut Items<Body>,
 ) -> Result<(), OutOfMemory>
-    requires some { 1 ≤ task.now.atoms }
-    requires few { task.now.atoms ≤ 3 }
     ensures { OnOk result (map filled out.new ≡ map filled out.old ++ flat_map (pairs_on task.now kind (filled a.now)) (map filled others.now)) }
 {
     for b in others {
@@ -156,16 +133,14 @@ fn push_pairs_with(
     Ok(())
 }
 
-// The standard joins or left joins of each of these bodies with each of those.
+// The standard pairs of each of these bodies with each of those.
 fn fill_pairs(
     alloc: Global,
-    task: &TaskParts,
+    task: &Task,
     kind: Pairing,
     lefts: &[Body],
     rights: &[Body],
 ) -> Result<Items<Body>, OutOfMemory>
-    requires some { 1 ≤ task.now.atoms }
-    requires few { task.now.atoms ≤ 3 }
     ensures { IfOk result (λ out. map filled out ≡ of_each_filled (pairs_on task.now kind) (map filled lefts.now) (map filled rights.now)) }
 {
     let mut out = Items::new(alloc);
@@ -202,7 +177,7 @@ fn push_unions_with(
     ensures { OnOk result (map filled out.new ≡ map filled out.old ++ flat_map (unions_on kind (filled a.now)) (map filled others.now)) }
 {
     for b in others {
-        out.push(a.union(alloc, kind, b)?).map_err(|_| OutOfMemory)?;
+        out.push(a.union(alloc, kind, b)?)?;
     }
     Ok(())
 }
@@ -224,19 +199,16 @@ fn fill_unions(
 }
 
 // An input alone.
-fn fill_base(alloc: Global, task: &TaskParts, table: u32) -> Result<Items<Body>, OutOfMemory>
+fn fill_base(alloc: Global, task: &Task, table: u32) -> Result<Items<Body>, OutOfMemory>
     ensures { IfOk result (λ out. map filled out ≡ filled_up task.now (base table)) }
 {
     let mut out = Items::new(alloc);
-    out.push(Body::base(alloc, task, table)?)
-        .map_err(|_| OutOfMemory)?;
+    out.push(Body::base(alloc, task.inputs(), table)?)?;
     Ok(out)
 }
 
 /// The standard fillings of a skeleton that have rows.
-pub fn fill(alloc: Global, task: &TaskParts, skeleton: &Node) -> Result<Items<Body>, OutOfMemory>
-    requires some { 1 ≤ task.now.atoms }
-    requires few { task.now.atoms ≤ 3 }
+pub fn fill(alloc: Global, task: &Task, skeleton: &Node) -> Result<Items<Body>, OutOfMemory>
     ensures { IfOk result (λ out. map filled out ≡ filled_up task.now (tree skeleton.now)) }
 {
     match skeleton {

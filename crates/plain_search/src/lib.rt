@@ -5,11 +5,7 @@ mod answers;
 mod body;
 mod columns;
 mod fill;
-mod kinds;
 mod roots;
 mod search;
 
 pub use search::{few, plain};
-
-#[cfg(test)]
-mod tests;

@@ -8,27 +8,26 @@ ghost use Rattle.plain_search.specs.View.{filled};
 use crate::answers::{push_body, push_some};
 use crate::body::Body;
 use crate::fill::{child_choices, fill, filter_on, pair_choices};
-use crate::kinds::{Pairing, Uniting};
 use hole_choices::Choice;
-use query_core::{Agg, Node};
+use query_core::{Agg, Node, Pairing, Uniting};
 use rank_core::Ranked;
 use std::alloc::Global;
-use table_core::TaskParts;
+use table_core::Task;
 use value_core::OutOfMemory;
 
 // Appends the answers of the filters by these choices over this body.
 fn push_chosen_filters(
     alloc: Global,
-    task: &TaskParts,
+    task: &Task,
     skeleton: u32,
     child: &Body,
     choices: &[Choice],
     out: &mut Vec<Ranked>,
 ) -> Result<(), OutOfMemory>
-    ensures { OnOk result (map ranked_query out.new.items ≡ map ranked_query out.old.items ++ flat_map (kept_on task.now skeleton) (flat_map (filter_on task.now (filled child.now)) choices.now)) }
+    ensures { OnOk result (map ranked_query out.new.items ≡ map ranked_query out.old.items ++ flat_map (kept_on task.now skeleton) (flat_map (filter_on task.now.constants (filled child.now)) choices.now)) }
 {
     for choice in choices {
-        let body = filter_on(alloc, task, child, choice)?;
+        let body = filter_on(alloc, task.constants(), child, choice)?;
         push_some(alloc, task, skeleton, body, out)?;
     }
     Ok(())
@@ -37,13 +36,11 @@ fn push_chosen_filters(
 // Appends the answers of the standard filters over this body.
 fn push_filters(
     alloc: Global,
-    task: &TaskParts,
+    task: &Task,
     skeleton: u32,
     child: &Body,
     out: &mut Vec<Ranked>,
 ) -> Result<(), OutOfMemory>
-    requires some { 1 ≤ task.now.atoms }
-    requires few { task.now.atoms ≤ 3 }
     ensures { OnOk result (map ranked_query out.new.items ≡ map ranked_query out.old.items ++ flat_map (kept_on task.now skeleton) (filters_on task.now (filled child.now))) }
 {
     let choices = child_choices(alloc, task, child)?;
@@ -53,13 +50,11 @@ fn push_filters(
 // Appends the answers of the standard filters over these bodies.
 fn push_all_filters(
     alloc: Global,
-    task: &TaskParts,
+    task: &Task,
     skeleton: u32,
     children: &[Body],
     out: &mut Vec<Ranked>,
 ) -> Result<(), OutOfMemory>
-    requires some { 1 ≤ task.now.atoms }
-    requires few { task.now.atoms ≤ 3 }
     ensures { OnOk result (map ranked_query out.new.items ≡ map ranked_query out.old.items ++ flat_map (kept_on task.now skeleton) (flat_map (filters_on task.now) (map filled children.now))) }
 {
     for child in children {
@@ -68,10 +63,10 @@ fn push_all_filters(
     Ok(())
 }
 
-// Appends the answers of the joins or left joins of two bodies by these choices.
+// Appends the answers of the pairs of two bodies by these choices.
 fn push_chosen_pairs(
     alloc: Global,
-    task: &TaskParts,
+    task: &Task,
     skeleton: u32,
     kind: Pairing,
     a: &Body,
@@ -79,27 +74,25 @@ fn push_chosen_pairs(
     choices: &[Choice],
     out: &mut Vec<Ranked>,
 ) -> Result<(), OutOfMemory>
-    ensures { OnOk result (map ranked_query out.new.items ≡ map ranked_query out.old.items ++ flat_map (kept_on task.now skeleton) (map (pair_filled task.now kind (filled a.now) (filled b.now)) choices.now)) }
+    ensures { OnOk result (map ranked_query out.new.items ≡ map ranked_query out.old.items ++ flat_map (kept_on task.now skeleton) (map (pair_filled task.now.constants kind (filled a.now) (filled b.now)) choices.now)) }
 {
     for choice in choices {
-        let body = a.pair(alloc, task, kind, b, choice)?;
+        let body = a.pair(alloc, task.constants(), kind, b, choice)?;
         push_body(alloc, task, skeleton, &body, out)?;
     }
     Ok(())
 }
 
-// Appends the answers of the standard joins or left joins of two bodies.
+// Appends the answers of the standard pairs of two bodies.
 fn push_pair(
     alloc: Global,
-    task: &TaskParts,
+    task: &Task,
     skeleton: u32,
     kind: Pairing,
     a: &Body,
     b: &Body,
     out: &mut Vec<Ranked>,
 ) -> Result<(), OutOfMemory>
-    requires some { 1 ≤ task.now.atoms }
-    requires few { task.now.atoms ≤ 3 }
     ensures { OnOk result (map ranked_query out.new.items ≡ map ranked_query out.old.items ++ flat_map (kept_on task.now skeleton) (pairs_on task.now kind (filled a.now) (filled b.now))) }
 {
     let choices = pair_choices(alloc, task, a, b)?;
@@ -109,15 +102,13 @@ fn push_pair(
 // Appends the answers of those of a body with each of these.
 fn push_pairs_with(
     alloc: Global,
-    task: &TaskParts,
+    task: &Task,
     skeleton: u32,
     kind: Pairing,
     a: &Body,
     others: &[Body],
     out: &mut Vec<Ranked>,
 ) -> Result<(), OutOfMemory>
-    requires some { 1 ≤ task.now.atoms }
-    requires few { task.now.atoms ≤ 3 }
     ensures { OnOk result (map ranked_query out.new.items ≡ map ranked_query out.old.items ++ flat_map (kept_on task.now skeleton) (flat_map (pairs_on task.now kind (filled a.now)) (map filled others.now))) }
 {
     for b in others {
@@ -129,15 +120,13 @@ fn push_pairs_with(
 // Appends the answers of those of each of these bodies with each of those.
 fn push_pairs(
     alloc: Global,
-    task: &TaskParts,
+    task: &Task,
     skeleton: u32,
     kind: Pairing,
     lefts: &[Body],
     rights: &[Body],
     out: &mut Vec<Ranked>,
 ) -> Result<(), OutOfMemory>
-    requires some { 1 ≤ task.now.atoms }
-    requires few { task.now.atoms ≤ 3 }
     ensures { OnOk result (map ranked_query out.new.items ≡ map ranked_query out.old.items ++ flat_map (kept_on task.now skeleton) (of_each_filled (pairs_on task.now kind) (map filled lefts.now) (map filled rights.now))) }
 {
     for a in lefts {
@@ -149,7 +138,7 @@ fn push_pairs(
 // Appends the answers of the groups over these bodies.
 fn push_groups(
     alloc: Global,
-    task: &TaskParts,
+    task: &Task,
     skeleton: u32,
     keys: &[usize],
     agg: &Agg,
@@ -168,7 +157,7 @@ fn push_groups(
 // Appends the answers of the union of two bodies.
 fn push_union(
     alloc: Global,
-    task: &TaskParts,
+    task: &Task,
     skeleton: u32,
     kind: Uniting,
     a: &Body,
@@ -184,7 +173,7 @@ fn push_union(
 // Appends the answers of the unions of a body with each of these.
 fn push_unions_with(
     alloc: Global,
-    task: &TaskParts,
+    task: &Task,
     skeleton: u32,
     kind: Uniting,
     a: &Body,
@@ -202,7 +191,7 @@ fn push_unions_with(
 // Appends the answers of the unions of each of these bodies with each of those.
 fn push_unions(
     alloc: Global,
-    task: &TaskParts,
+    task: &Task,
     skeleton: u32,
     kind: Uniting,
     lefts: &[Body],
@@ -220,18 +209,16 @@ fn push_unions(
 /// Appends the answers of a skeleton with this number.
 pub fn push_skeleton(
     alloc: Global,
-    task: &TaskParts,
+    task: &Task,
     number: u32,
     skeleton: &Node,
     out: &mut Vec<Ranked>,
 ) -> Result<(), OutOfMemory>
-    requires some { 1 ≤ task.now.atoms }
-    requires few { task.now.atoms ≤ 3 }
     ensures { OnOk result (map ranked_query out.new.items ≡ map ranked_query out.old.items ++ kept_of task.now (number, tree skeleton.now)) }
 {
     match skeleton {
         Node::Base(table) => {
-            let body = Body::base(alloc, task, *table)?;
+            let body = Body::base(alloc, task.inputs(), *table)?;
             push_body(alloc, task, number, &body, out)
         }
         Node::Filter(child, _) => {
@@ -271,13 +258,7 @@ pub fn push_skeleton(
 }
 
 /// The answers of some skeletons, which are numbered from 0, in the grammar's order.
-pub fn found(
-    alloc: Global,
-    task: &TaskParts,
-    skeletons: &[Node],
-) -> Result<Vec<Ranked>, OutOfMemory>
-    requires some { 1 ≤ task.now.atoms }
-    requires few { task.now.atoms ≤ 3 }
+pub fn found(alloc: Global, task: &Task, skeletons: &[Node]) -> Result<Vec<Ranked>, OutOfMemory>
     requires small { length skeletons.now < 2 ^ 32 }
     ensures { IfOk result (λ list. map ranked_query list.items ≡ kept_of_all task.now (map tree skeletons.now)) }
 {

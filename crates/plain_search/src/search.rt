@@ -7,7 +7,7 @@ use crate::roots::found;
 use rank_core::{Ranked, sort};
 use skeleton_list::skeletons;
 use std::alloc::Global;
-use table_core::{Task, TaskParts};
+use table_core::Task;
 use value_core::OutOfMemory;
 
 // The most skeletons of a task that is listed.
@@ -21,25 +21,23 @@ pub fn few(alloc: Global, task: &Task) -> Result<bool, OutOfMemory>
     Ok(listed.is_some())
 }
 
-// The answers of the task of these parts, in the grammar's order.
-fn listed(alloc: Global, parts: &TaskParts) -> Result<Vec<Ranked>, OutOfMemory>
-    requires some { 1 ≤ parts.now.atoms }
-    requires few { parts.now.atoms ≤ 3 }
-    requires small { length (skeletons parts.now) ≤ 100000 }
-    ensures { IfOk result (λ list. map ranked_query list.items ≡ map (ranked parts.now) (found parts.now)) }
+// The answers of a task, in the grammar's order.
+fn listed(alloc: Global, task: &Task) -> Result<Vec<Ranked>, OutOfMemory>
+    requires small { length (skeletons task.now) ≤ 100000 }
+    ensures { IfOk result (λ list. map ranked_query list.items ≡ map (ranked task.now) (found task.now)) }
 {
-    let Some(nodes) = skeletons(alloc, parts, MOST_SKELETONS)? else {
+    let Some(nodes) = skeletons(alloc, task.parts(), MOST_SKELETONS)? else {
         return Err(OutOfMemory);
     };
-    found(alloc, parts, nodes.as_slice())
+    found(alloc, task, nodes.as_slice())
 }
 
-/// The answers of a task, best first, by looking at every query of its grammar.
+/// The answers of a task, best first.
 pub fn plain(alloc: Global, task: &Task) -> Result<Vec<Ranked>, OutOfMemory>
     requires { length (skeletons task.now) ≤ 100000 }
     ensures { IfOk result (λ list. map ranked_query list.items ≡ answers task.now) }
 {
-    let mut list = listed(alloc, task.parts())?;
+    let mut list = listed(alloc, task)?;
     sort(&mut list)?;
     Ok(list)
 }

@@ -18,6 +18,3 @@ pub use listing::atoms;
 pub use numbers::{pair_count, triple_count};
 pub use pred::{Pred, keeps, truth};
 pub use pred_list::{PredList, preds};
-
-#[cfg(test)]
-mod tests;

@@ -17,6 +17,10 @@ use Rattle.query_core.specs.Tree.{Tree, Select}
 use Rattle.query_core.specs.Tree as t
 use Rattle.query_core.specs.declared.agg.Agg.{Agg}
 use Rattle.query_core.specs.declared.agg.Agg.TheVariants.{CountAll, Count, CountDistinct, Sum, Min, Max}
+use Rattle.query_core.specs.declared.kinds.Pairing.{Pairing}
+use Rattle.query_core.specs.declared.kinds.Pairing.TheVariants.{Join, Left}
+use Rattle.query_core.specs.declared.kinds.Uniting.{Uniting}
+use Rattle.query_core.specs.declared.kinds.Uniting.TheVariants.{All, Firsts}
 use Rattle.sql_print.specs.declared.part.Place.{Place}
 use Rattle.sql_print.specs.declared.part.Place.TheVariants.{Among, AfterFrom}
 use Rattle.query_core.specs.Meaning.{input_at}
@@ -48,10 +52,10 @@ operator Le = codes "<="
 operator Gt = codes ">"
 operator Ge = codes ">="
 
--- the texts, joined by a separator
-abbrev pub joined : List ℕ → List (List ℕ) → List ℕ
-joined separator [] = []
-joined separator (text ∷ texts) = text ++ flat_map (λ t. separator ++ t) texts
+-- the texts, with a separator between each two
+abbrev pub separated : List ℕ → List (List ℕ) → List ℕ
+separated separator [] = []
+separated separator (text ∷ texts) = text ++ flat_map (λ t. separator ++ t) texts
 
 -- a text of a list, empty where there is none
 abbrev pub text_at : List (List ℕ) → ℕ → List ℕ
@@ -68,10 +72,10 @@ atom_text constants columns (NotNull i) = text_at columns i ++ codes " IS NOT NU
 abbrev pub pred_text : List Value → List (List ℕ) → Pred → List ℕ
 pred_text constants columns Always = codes "1 = 1"
 pred_text constants columns (One a) = atom_text constants columns a
-pred_text constants columns (And2 a b) = joined (codes " AND ") (map (atom_text constants columns) (a ∷ b ∷ []))
-pred_text constants columns (Or2 a b) = joined (codes " OR ") (map (atom_text constants columns) (a ∷ b ∷ []))
-pred_text constants columns (And3 a b c) = joined (codes " AND ") (map (atom_text constants columns) (a ∷ b ∷ c ∷ []))
-pred_text constants columns (Or3 a b c) = joined (codes " OR ") (map (atom_text constants columns) (a ∷ b ∷ c ∷ []))
+pred_text constants columns (And2 a b) = separated (codes " AND ") (map (atom_text constants columns) (a ∷ b ∷ []))
+pred_text constants columns (Or2 a b) = separated (codes " OR ") (map (atom_text constants columns) (a ∷ b ∷ []))
+pred_text constants columns (And3 a b c) = separated (codes " AND ") (map (atom_text constants columns) (a ∷ b ∷ c ∷ []))
+pred_text constants columns (Or3 a b c) = separated (codes " OR ") (map (atom_text constants columns) (a ∷ b ∷ c ∷ []))
 
 -- the alias of a source: s1, s2, ..
 abbrev pub alias : ℕ → List ℕ
@@ -94,8 +98,8 @@ input_column number c = alias number ++ codes "." ++ quoted_name c.name
 -- an input as a source with this alias number
 abbrev pub input_source : TaskParts → ℕ → ℕ → Part
 input_source task table number = record {
-  text = quoted_name (input_at task table).name ++ codes " AS " ++ alias number;
-  columns = map (input_column number) (input_at task table).columns;
+  text = quoted_name (input_at task.inputs table).name ++ codes " AS " ++ alias number;
+  columns = map (input_column number) (input_at task.inputs table).columns;
   next = number + 1;
 }
 
@@ -109,7 +113,7 @@ renamed columns at = named (text_at columns at) (column_name at)
 
 -- the columns of a part as a select list: `x1 AS c1, x2 AS c2, ..`
 abbrev pub all_columns : List (List ℕ) → List ℕ
-all_columns columns = joined (codes ", ") (map (renamed columns) (range_with_len 0 (length columns)))
+all_columns columns = separated (codes ", ") (map (renamed columns) (range_with_len 0 (length columns)))
 
 -- `FROM` and a source
 abbrev pub from_source : Part → Part
@@ -143,15 +147,23 @@ arm part = codes "SELECT " ++ all_columns part.columns ++ codes " " ++ part.text
 abbrev pub derived : Part → Part
 derived part = enclosed (arm part) (length part.columns) part.next
 
+-- the words between the two sources of a pair
+abbrev pub pair_words : Pairing → List ℕ
+pair_words Join = codes " JOIN "
+pair_words Left = codes " LEFT JOIN "
+
+-- the words between the two parts of a union
+abbrev pub union_words : Uniting → List ℕ
+union_words All = codes " UNION ALL "
+union_words Firsts = codes " UNION "
+
 -- whether a tree is a join or a left join, which stands in parentheses on the right of another
 abbrev pub is_joined : Tree → Bool
 is_joined (t.base table) = false
 is_joined (t.filter child p) = false
-is_joined (t.join a b p) = true
-is_joined (t.left a b p) = true
+is_joined (t.pair kind a b p) = true
 is_joined (t.group child keys agg) = false
-is_joined (t.union_all a b) = false
-is_joined (t.union a b) = false
+is_joined (t.unite kind a b) = false
 
 -- a text, in parentheses where it has to be
 abbrev pub in_parentheses : Bool → List ℕ → List ℕ
@@ -181,7 +193,7 @@ agg_text columns (Max column) = codes "MAX(" ++ text_at columns column ++ codes 
 -- `GROUP BY` and these texts, nothing where there are none
 abbrev pub group_by : List (List ℕ) → List ℕ
 group_by [] = []
-group_by (text ∷ texts) = codes " GROUP BY " ++ joined (codes ", ") (text ∷ texts)
+group_by (text ∷ texts) = codes " GROUP BY " ++ separated (codes ", ") (text ∷ texts)
 
 -- the groups of a part after `FROM`: the keys and the aggregate, selected
 abbrev pub group_text : Part → List ℕ → Agg → List ℕ
@@ -210,11 +222,11 @@ of_parts f left right = f left (right left.next)
 abbrev pub printed : TaskParts → Tree → Place → ℕ → Part
 printed task (t.base table) place number = placed place (input_source task table number)
 printed task (t.filter child p) place number = where_placed place (from_where task.constants (printed task child Among number) p)
-printed task (t.join a b p) place number = placed place (of_parts (join_source task.constants (codes " JOIN ") (is_joined b) p) (printed task a Among number) (printed task b Among))
-printed task (t.left a b p) place number = placed place (of_parts (join_source task.constants (codes " LEFT JOIN ") (is_joined b) p) (printed task a Among number) (printed task b Among))
+printed task (t.pair kind a b p) place number =
+    placed place (of_parts (join_source task.constants (pair_words kind) (is_joined b) p) (printed task a Among number) (printed task b Among))
 printed task (t.group child keys agg) place number = placed place (group_source keys agg (printed task child AfterFrom number))
-printed task (t.union_all a b) place number = placed place (of_parts (union_source (codes " UNION ALL ")) (printed task a AfterFrom number) (printed task b AfterFrom))
-printed task (t.union a b) place number = placed place (of_parts (union_source (codes " UNION ")) (printed task a AfterFrom number) (printed task b AfterFrom))
+printed task (t.unite kind a b) place number =
+    placed place (of_parts (union_source (union_words kind)) (printed task a AfterFrom number) (printed task b AfterFrom))
 
 -- a tree after `FROM`, with aliases from this number on
 abbrev pub from : TaskParts → Tree → ℕ → Part
@@ -226,7 +238,7 @@ selected columns p = named (text_at columns p.0) (quoted_name p.1.name)
 
 -- the select list of a query: each column of the map under its output name
 abbrev pub select_list : List (List ℕ) → List ℕ → List Column → List ℕ
-select_list columns picks output = joined (codes ", ") (map (selected columns) (zip picks output))
+select_list columns picks output = separated (codes ", ") (map (selected columns) (zip picks output))
 
 -- the SQL text of a query
 abbrev pub sql : TaskParts → Select → List ℕ

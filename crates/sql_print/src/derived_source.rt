@@ -4,7 +4,7 @@ ghost use Rattle.sql_print.specs.Sql.{renamed, all_columns, derived_column, encl
 
 use crate::part::{Place, Printed, after, push_alias, push_column_name};
 use crate::predicate::text_at;
-use crate::push::{push_bytes, push_joined};
+use crate::push::{push_between, push_bytes};
 use sqlite_items::Items;
 use std::alloc::Global;
 use value_core::{Bytes, OutOfMemory};
@@ -26,9 +26,7 @@ fn all_renamed(alloc: Global, columns: &[Bytes]) -> Result<Items<Bytes>, OutOfMe
 {
     let mut texts = Items::new(alloc);
     for at in 0..columns.len() {
-        texts
-            .push(renamed(alloc, columns, at)?)
-            .map_err(|_| OutOfMemory)?;
+        texts.push(renamed(alloc, columns, at)?)?;
     }
     Ok(texts)
 }
@@ -50,9 +48,7 @@ fn derived_columns(alloc: Global, number: u64, count: usize) -> Result<Items<Byt
 {
     let mut texts = Items::new(alloc);
     for at in 0..count {
-        texts
-            .push(derived_column(alloc, number, at)?)
-            .map_err(|_| OutOfMemory)?;
+        texts.push(derived_column(alloc, number, at)?)?;
     }
     Ok(texts)
 }
@@ -66,7 +62,7 @@ pub fn push_all_columns(
     ensures { OnOk result (out.new.items ≡ out.old.items ++ all_columns columns.now) }
 {
     let texts = all_renamed(alloc, columns)?;
-    push_joined(out, b", ", texts.as_slice())
+    push_between(out, b", ", texts.as_slice())
 }
 
 // A text in parentheses as a derived source of so many columns, under this alias number.

@@ -4,7 +4,7 @@ ghost use Rattle.sql_print.specs.Sql.{text_at, agg_text, group_by, group_text, g
 use crate::derived_source::{enclosed, push_all_columns};
 use crate::part::Printed;
 use crate::predicate::text_at;
-use crate::push::{push_bytes, push_joined};
+use crate::push::{push_between, push_bytes};
 use query_core::Agg;
 use sqlite_items::Items;
 use std::alloc::Global;
@@ -53,9 +53,7 @@ fn key_texts(alloc: Global, columns: &[Bytes], keys: &[usize]) -> Result<Items<B
 {
     let mut texts = Items::new(alloc);
     for key in keys {
-        texts
-            .push(Bytes::of(alloc, text_at(columns, *key))?)
-            .map_err(|_| OutOfMemory)?;
+        texts.push(Bytes::of(alloc, text_at(columns, *key))?)?;
     }
     Ok(texts)
 }
@@ -68,7 +66,7 @@ fn push_group_by(out: &mut Vec<u8>, texts: &[Bytes]) -> Result<(), OutOfMemory>
         [] => Ok(()),
         [_, ..] => {
             push_bytes(out, b" GROUP BY ")?;
-            push_joined(out, b", ", texts)
+            push_between(out, b", ", texts)
         }
     }
 }
@@ -83,9 +81,7 @@ fn selected_texts(
     ensures { IfOk result (λ texts. texts ≡ map (text_at columns.now) keys.now ++ agg_text columns.now agg.now ∷ []) }
 {
     let mut texts = key_texts(alloc, columns, keys)?;
-    texts
-        .push(agg_text(alloc, columns, agg)?)
-        .map_err(|_| OutOfMemory)?;
+    texts.push(agg_text(alloc, columns, agg)?)?;
     Ok(texts)
 }
 

@@ -11,7 +11,7 @@ use value_core::{Bytes, OutOfMemory};
 
 // The name of an input, empty where there is no input of this number.
 fn input_name(task: &TaskParts, table: u32) -> &[u8]
-    ensures { result.now ≡ (input_at task.now table).name }
+    ensures { result.now ≡ (input_at task.now.inputs table).name }
 {
     match task.inputs.get(table as usize) {
         Some(input) => input.name().as_slice(),
@@ -21,7 +21,7 @@ fn input_name(task: &TaskParts, table: u32) -> &[u8]
 
 // The columns of an input, none where there is no input of this number.
 fn input_columns(task: &TaskParts, table: u32) -> &[Column]
-    ensures { result.now ≡ (input_at task.now table).columns }
+    ensures { result.now ≡ (input_at task.now.inputs table).columns }
 {
     match task.inputs.get(table as usize) {
         Some(input) => input.columns(),
@@ -46,9 +46,7 @@ fn input_texts(alloc: Global, number: u64, columns: &[Column]) -> Result<Items<B
 {
     let mut texts = Items::new(alloc);
     for column in columns {
-        texts
-            .push(input_column(alloc, number, column)?)
-            .map_err(|_| OutOfMemory)?;
+        texts.push(input_column(alloc, number, column)?)?;
     }
     Ok(texts)
 }

@@ -36,8 +36,7 @@ fn push_copies(alloc: Global, out: &mut Items<Bytes>, texts: &[Bytes]) -> Result
     ensures { OnOk result (out.new ≡ out.old ++ texts.now) }
 {
     for text in texts {
-        out.push(Bytes::of(alloc, text.as_slice())?)
-            .map_err(|_| OutOfMemory)?;
+        out.push(Bytes::of(alloc, text.as_slice())?)?;
     }
     Ok(())
 }

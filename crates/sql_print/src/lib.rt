@@ -15,6 +15,3 @@ mod tree;
 
 pub use run::text;
 pub use select::sql;
-
-#[cfg(test)]
-mod tests;

@@ -1,9 +1,9 @@
 ghost use Rattle.std.specs.Prelude.{◌≡◌, ◌++◌, OnOk, IfOk, codes, map};
 ghost use Rattle.predicate_core.specs.Truth.{value_at};
-ghost use Rattle.sql_print.specs.Sql.{literal, operator, text_at, joined, atom_text, pred_text};
+ghost use Rattle.sql_print.specs.Sql.{literal, operator, text_at, separated, atom_text, pred_text};
 
 use crate::literal::{operator, push_value};
-use crate::push::{push_bytes, push_joined};
+use crate::push::{push_between, push_bytes};
 use predicate_core::{Atom, Pred};
 use sqlite_items::Items;
 use std::alloc::Global;
@@ -99,9 +99,7 @@ fn atom_texts(
 {
     let mut texts = Items::new(alloc);
     for atom in atoms {
-        texts
-            .push(atom_text(alloc, constants, columns, *atom)?)
-            .map_err(|_| OutOfMemory)?;
+        texts.push(atom_text(alloc, constants, columns, *atom)?)?;
     }
     Ok(texts)
 }
@@ -115,10 +113,10 @@ fn push_atoms(
     separator: &[u8],
     atoms: &[Atom],
 ) -> Result<(), OutOfMemory>
-    ensures { OnOk result (out.new.items ≡ out.old.items ++ joined separator.now (map (atom_text constants.now columns.now) atoms.now)) }
+    ensures { OnOk result (out.new.items ≡ out.old.items ++ separated separator.now (map (atom_text constants.now columns.now) atoms.now)) }
 {
     let texts = atom_texts(alloc, constants, columns, atoms)?;
-    push_joined(out, separator, texts.as_slice())
+    push_between(out, separator, texts.as_slice())
 }
 
 // Appends a predicate over columns of these texts.

@@ -1,6 +1,6 @@
 ghost use Rattle.std.specs.Prelude.{◌≡◌, ◌∷◌, ◌++◌, [], OnOk, flat_map, codes, if◌then◌else◌, ◌==◌};
 ghost use Rattle.std.specs.Fmt.{decimal, signed_decimal};
-ghost use Rattle.sql_print.specs.Sql.{quoted, quoted_name, joined, doubled};
+ghost use Rattle.sql_print.specs.Sql.{quoted, quoted_name, separated, doubled};
 
 use std::alloc::Global;
 use value_core::{Bytes, OutOfMemory};
@@ -9,34 +9,30 @@ use value_core::{Bytes, OutOfMemory};
 pub fn push_bytes(out: &mut Vec<u8>, bytes: &[u8]) -> Result<(), OutOfMemory>
     ensures { OnOk result (out.new.items ≡ out.old.items ++ bytes.now) }
 {
-    out.extend_from_slice(bytes).map_err(|_| OutOfMemory)
+    Ok(out.extend_from_slice(bytes)?)
 }
 
 // Appends one byte.
 fn push_byte(out: &mut Vec<u8>, byte: u8) -> Result<(), OutOfMemory>
     ensures { OnOk result (out.new.items ≡ out.old.items ++ byte ∷ []) }
 {
-    out.push(byte).map_err(|_| OutOfMemory)
+    Ok(out.push(byte)?)
 }
 
 // Appends a number in decimal.
 pub fn push_number(alloc: Global, out: &mut Vec<u8>, number: u64) -> Result<(), OutOfMemory>
     ensures { OnOk result (out.new.items ≡ out.old.items ++ decimal number) }
 {
-    match number.to_string(alloc) {
-        Ok(text) => push_bytes(out, text.as_bytes()),
-        Err(_) => Err(OutOfMemory),
-    }
+    let text = number.to_string(alloc)?;
+    push_bytes(out, text.as_bytes())
 }
 
 // Appends a whole number in decimal, with a `-` where it is below 0.
 pub fn push_integer(alloc: Global, out: &mut Vec<u8>, number: i64) -> Result<(), OutOfMemory>
     ensures { OnOk result (out.new.items ≡ out.old.items ++ signed_decimal number) }
 {
-    match number.to_string(alloc) {
-        Ok(text) => push_bytes(out, text.as_bytes()),
-        Err(_) => Err(OutOfMemory),
-    }
+    let text = number.to_string(alloc)?;
+    push_bytes(out, text.as_bytes())
 }
 
 // Appends a byte, twice where it is the mark.
@@ -87,8 +83,8 @@ fn push_separated(out: &mut Vec<u8>, separator: &[u8], texts: &[Bytes]) -> Resul
 }
 
 // Appends the texts, joined by a separator.
-pub fn push_joined(out: &mut Vec<u8>, separator: &[u8], texts: &[Bytes]) -> Result<(), OutOfMemory>
-    ensures { OnOk result (out.new.items ≡ out.old.items ++ joined separator.now texts.now) }
+pub fn push_between(out: &mut Vec<u8>, separator: &[u8], texts: &[Bytes]) -> Result<(), OutOfMemory>
+    ensures { OnOk result (out.new.items ≡ out.old.items ++ separated separator.now texts.now) }
 {
     if texts.is_empty() {
         return Ok(());

@@ -5,7 +5,7 @@ ghost use Rattle.sql_print.specs.Sql.{named, selected, select_list, from, sql};
 
 use crate::part::Printed;
 use crate::predicate::text_at;
-use crate::push::{push_bytes, push_joined, push_name};
+use crate::push::{push_between, push_bytes, push_name};
 use crate::tree::from;
 use query_core::Query;
 use sqlite_items::Items;
@@ -40,9 +40,7 @@ fn all_selected(
 {
     let mut texts = Items::new(alloc);
     for (pick, column) in picks.iter().zip(output) {
-        texts
-            .push(selected(alloc, columns, *pick, column)?)
-            .map_err(|_| OutOfMemory)?;
+        texts.push(selected(alloc, columns, *pick, column)?)?;
     }
     Ok(texts)
 }
@@ -58,7 +56,7 @@ fn push_select_list(
     ensures { OnOk result (out.new.items ≡ out.old.items ++ select_list columns.now picks.now output.now) }
 {
     let texts = all_selected(alloc, columns, picks, output)?;
-    push_joined(out, b", ", texts.as_slice())
+    push_between(out, b", ", texts.as_slice())
 }
 
 // Appends `DISTINCT` where duplicates are removed.

@@ -1,6 +1,6 @@
 ghost use Rattle.std.specs.Prelude.{◌≡◌, IfOk, codes};
 ghost use Rattle.query_core.specs.View.{tree};
-ghost use Rattle.sql_print.specs.Sql.{is_joined, placed, where_placed, from_where, join_source, union_source, group_source, input_source, printed, from};
+ghost use Rattle.sql_print.specs.Sql.{pair_words, union_words, is_joined, placed, where_placed, from_where, join_source, union_source, group_source, input_source, printed, from};
 
 use crate::derived_source::{union_source, where_placed};
 use crate::group_source::group_source;
@@ -8,7 +8,7 @@ use crate::input::input_source;
 use crate::join_source::{is_joined, join_source};
 use crate::part::{Place, Printed, from_where, placed};
 use predicate_core::Pred;
-use query_core::{Agg, Node};
+use query_core::{Agg, Node, Pairing, Uniting};
 use std::alloc::Global;
 use table_core::TaskParts;
 use value_core::OutOfMemory;
@@ -40,24 +40,44 @@ fn filter_placed(
     where_placed(alloc, place, part)
 }
 
-// A join of two sources, by these words, where it stands; the right one is this node's.
-fn join_placed(
+// The words between the two sources of a pair.
+fn pair_words(kind: Pairing) -> &'static [u8]
+    ensures { result.now ≡ pair_words kind }
+{
+    match kind {
+        Pairing::Join => b" JOIN ",
+        Pairing::Left => b" LEFT JOIN ",
+    }
+}
+
+// The words between the two parts of a union.
+fn union_words(kind: Uniting) -> &'static [u8]
+    ensures { result.now ≡ union_words kind }
+{
+    match kind {
+        Uniting::All => b" UNION ALL ",
+        Uniting::Firsts => b" UNION ",
+    }
+}
+
+// A pair of two sources where it stands; the right one is this node's.
+fn pair_placed(
     alloc: Global,
     task: &TaskParts,
     place: Place,
-    words: &[u8],
+    kind: Pairing,
     node: &Node,
     pred: &Pred,
     left: Printed,
     right: Printed,
 ) -> Result<Printed, OutOfMemory>
-    ensures { IfOk result (λ part. part ≡ placed place (join_source task.now.constants words.now (is_joined (tree node.now)) pred.now left right)) }
+    ensures { IfOk result (λ part. part ≡ placed place (join_source task.now.constants (pair_words kind) (is_joined (tree node.now)) pred.now left right)) }
 {
     let constants = task.constants.as_slice();
     let source = join_source(
         alloc,
         constants,
-        words,
+        pair_words(kind),
         is_joined(node),
         pred,
         &left,
@@ -66,17 +86,21 @@ fn join_placed(
     placed(alloc, place, source)
 }
 
-// A union of two parts, by these words, where it stands.
+// A union of two parts where it stands.
 fn union_placed(
     alloc: Global,
     place: Place,
-    words: &[u8],
+    kind: Uniting,
     left: Printed,
     right: Printed,
 ) -> Result<Printed, OutOfMemory>
-    ensures { IfOk result (λ part. part ≡ placed place (union_source words.now left right)) }
+    ensures { IfOk result (λ part. part ≡ placed place (union_source (union_words kind) left right)) }
 {
-    placed(alloc, place, union_source(alloc, words, &left, &right)?)
+    placed(
+        alloc,
+        place,
+        union_source(alloc, union_words(kind), &left, &right)?,
+    )
 }
 
 // The groups of a part where they stand.
@@ -90,20 +114,6 @@ fn group_placed(
     ensures { IfOk result (λ source. source ≡ placed place (group_source keys.now agg.now part)) }
 {
     placed(alloc, place, group_source(alloc, keys, agg, &part)?)
-}
-
-// The words of a left join.
-fn left_join_words() -> &'static [u8]
-    ensures { result.now ≡ codes " LEFT JOIN " }
-{
-    b" LEFT JOIN "
-}
-
-// The words of a union that keeps all copies.
-fn union_all_words() -> &'static [u8]
-    ensures { result.now ≡ codes " UNION ALL " }
-{
-    b" UNION ALL "
 }
 
 // A tree where it stands, with aliases from this number on.
@@ -125,16 +135,25 @@ fn printed(
         Node::Join(a, b, pred) => {
             let left = printed(alloc, task, a.get(), Place::Among, number)?;
             let right = printed(alloc, task, b.get(), Place::Among, left.next)?;
-            join_placed(alloc, task, place, b" JOIN ", b.get(), pred, left, right)
+            pair_placed(
+                alloc,
+                task,
+                place,
+                Pairing::Join,
+                b.get(),
+                pred,
+                left,
+                right,
+            )
         }
         Node::Left(a, b, pred) => {
             let left = printed(alloc, task, a.get(), Place::Among, number)?;
             let right = printed(alloc, task, b.get(), Place::Among, left.next)?;
-            join_placed(
+            pair_placed(
                 alloc,
                 task,
                 place,
-                left_join_words(),
+                Pairing::Left,
                 b.get(),
                 pred,
                 left,
@@ -148,12 +167,12 @@ fn printed(
         Node::UnionAll(a, b) => {
             let left = printed(alloc, task, a.get(), Place::AfterFrom, number)?;
             let right = printed(alloc, task, b.get(), Place::AfterFrom, left.next)?;
-            union_placed(alloc, place, union_all_words(), left, right)
+            union_placed(alloc, place, Uniting::All, left, right)
         }
         Node::Union(a, b) => {
             let left = printed(alloc, task, a.get(), Place::AfterFrom, number)?;
             let right = printed(alloc, task, b.get(), Place::AfterFrom, left.next)?;
-            union_placed(alloc, place, b" UNION ", left, right)
+            union_placed(alloc, place, Uniting::Firsts, left, right)
         }
     }
 }

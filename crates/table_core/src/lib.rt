@@ -20,6 +20,3 @@ pub use limits::{
 pub use table::{PushFault, Table};
 pub use task::{BadPart, Task, TaskParts};
 pub use tuple::Tuple;
-
-#[cfg(test)]
-mod tests;

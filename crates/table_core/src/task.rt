@@ -1,7 +1,7 @@
 ghost use Rattle.std.specs.Prelude.{◌≡◌, IfOk, Some, None, Ok, Err, OnOk, ◌++◌};
 
 use crate::agg_set::AggSet;
-use crate::limits::first_bad_part;
+use crate::limits::{MOST_ATOMS, first_bad_part};
 use crate::table::Table;
 use sqlite_items::Items;
 use std::alloc::Global;
@@ -92,7 +92,7 @@ impl TaskParts {
 }
 
 impl Task {
-    ghost use Rattle.std.specs.Prelude.{◌≡◌, IfOk, Some, None, Ok, Err, MatchOption};
+    ghost use Rattle.std.specs.Prelude.{◌≡◌, ◌≤◌, IfOk, Some, None, Ok, Err, MatchOption};
     ghost use Rattle.table_core.specs.Limits.{first_bad_part};
 
     /// The task of these parts, which are dropped where one is out of its limits.
@@ -110,6 +110,34 @@ impl Task {
         ensures within { first_bad_part result.now ≡ None }
     {
         &self.parts
+    }
+
+    pub fn inputs(&self) -> &[Table]
+        ensures { result.now ≡ self.now.inputs }
+    {
+        self.parts.inputs.as_slice()
+    }
+
+    pub fn output(&self) -> &Table
+        ensures { result.now ≡ self.now.output }
+    {
+        &self.parts.output
+    }
+
+    pub fn constants(&self) -> &[Value]
+        ensures { result.now ≡ self.now.constants }
+    {
+        self.parts.constants.as_slice()
+    }
+
+    /// The most atoms of a predicate.
+    #[tactic(auto, using(crate::proofs::LimitLaws::atoms_within))]
+    pub fn atoms(&self) -> u32
+        ensures value { result ≡ self.now.atoms }
+        ensures some { 1 ≤ result }
+        ensures few { result ≤ MOST_ATOMS }
+    {
+        self.parts.atoms
     }
 
     /// An equal task.

@@ -13,7 +13,7 @@ see_told-requires-clause-width c =
     let kept = ap (λ (w : Walk). w.width) c.loop-i.invariant.0.0 in
     let row = c.index-rows-i.result in
     let has = HasWidth-read width c.args.rows.now c.loop-i.i row c.index-rows-i.is c.loop-i-test.true c.requires.widths in
-    let joined_is : c.in_ok-joined.joined ≡ joined_told c.args.join (Some c.args.first.now) row = c.in_ok-joined.ensures in
+    let joined_is : c.in_ok-combined.combined ≡ joined_told c.args.join (Some c.args.first.now) row = c.in_ok-combined.ensures in
     let both_is : c.in_ok-both.both ≡ if_new c.loop-i.pairs.classes (joined_told c.args.join (Some c.args.first.now) row) = c.in_ok-both.ensures.told ∙ ap (if_new c.loop-i.pairs.classes) joined_is in
     rw kept (subst (HasWidth width) (sym both_is) (HasWidth-new width c.loop-i.pairs.classes (joined_told c.args.join (Some c.args.first.now) row) (HasWidth-join c.args.join width c.args.first.now row c.requires.width has)))
 
@@ -34,7 +34,7 @@ loop-i-preserved c =
     let others_is = take_rest rows (i + 1) in
     let classes = c.loop-i.pairs.classes in
     let after = c.keep_new.new.pairs.classes in
-    let joined_is : c.in_ok-joined.joined ≡ joined_told join first row = c.in_ok-joined.ensures in
+    let joined_is : c.in_ok-combined.combined ≡ joined_told join first row = c.in_ok-combined.ensures in
     let both_is : c.in_ok-both.both ≡ if_new classes (joined_told join first row) = c.in_ok-both.ensures.told ∙ ap (if_new classes) joined_is in
     let after_is : after ≡ with_told classes (joined_told join first row) = c.in_ok-both.ensures.classes ∙ ap (with_told classes) joined_is in
     let next = c.loop-i.next + length (take (length rows - (i + 1)) (drop (i + 1) rows)) in
@@ -60,7 +60,7 @@ returns-in_err-see_told-clause-sees c =
     let others_is = take_rest rows (i + 1) in
     let classes = c.loop-i.pairs.classes in
     let after = c.keep_new.new.pairs.classes in
-    let joined_is : c.in_ok-joined.joined ≡ joined_told join first row = c.in_ok-joined.ensures in
+    let joined_is : c.in_ok-combined.combined ≡ joined_told join first row = c.in_ok-combined.ensures in
     let both_is : c.in_ok-both.both ≡ if_new classes (joined_told join first row) = c.in_ok-both.ensures.told ∙ ap (if_new classes) joined_is in
     let after_is : after ≡ with_told classes (joined_told join first row) = c.in_ok-both.ensures.classes ∙ ap (with_told classes) joined_is in
     let next = c.loop-i.next + length others in

@@ -9,5 +9,5 @@ pub loop-k-preserved : goal.loop-k-preserved
 loop-k-preserved c =
     let words = c.loop-k.words.items in
     let word = c.first_word-word.result in
-    let pushed : c.push.new.self.items ≡ words ++ word ∷ [] = grind (arith, common_steps, c.in_ok-map_err.ensures.variant) in
+    let pushed : c.push.new.self.items ≡ words ++ word ∷ [] = grind (arith, common_steps) in
     pushed ∙ ap (λ w. words ++ w ∷ []) (c.first_word-word.ensures ∙ ap (λ bs. mask_l (take 64 bs)) (take_rest c.args.bits.now (c.loop-k.k * 64))) ∙ ap (λ ws. ws ++ mask_l (take 64 (drop (c.loop-k.k * 64) c.args.bits.now)) ∷ []) c.loop-k.invariant ∙ sym (packed_more c.args.bits.now c.loop-k.k)

@@ -7,4 +7,4 @@ use Rattle.sql_print.proofs.derived_source.all_renamed.Goals as goal
 pub loop-at-preserved : goal.loop-at-preserved
 loop-at-preserved c =
     let next = map-range_with_len_more (renamed c.args.columns.now) 0 c.loop-at.at c.loop-at.at (omega arith) in
-    grind (arith, common_steps, c.in_ok-map_err.ensures.variant)
+    grind (arith, common_steps)
