@@ -47,7 +47,7 @@ in_at [] i x e = absurd (none-some x e)
 in_at (y ∷ ys) zero x e = inl (sym (same_Some y x e))
 in_at (y ∷ ys) (suc i) x e = inr (in_at ys i x e)
 
-at_in : {X : Type 0} (x : X) (xs : List X) → In x xs → (i : ℕ) × (slice_get xs i ≡ Some x)
+pub at_in : {X : Type 0} (x : X) (xs : List X) → In x xs → (i : ℕ) × (slice_get xs i ≡ Some x)
 at_in x [] i = absurd i
 at_in x (y ∷ ys) (inl e) = (zero, ap Some (sym e))
 at_in x (y ∷ ys) (inr i) = let h = at_in x ys i in (suc h.0, h.1)

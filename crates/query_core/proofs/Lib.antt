@@ -1,2 +1,3 @@
+pub mod AscendingLaws
 pub mod KeyLaws
 pub mod MapLaws

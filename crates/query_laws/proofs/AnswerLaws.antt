@@ -7,13 +7,12 @@ use Rattle.std.specs.declared.cmp.Ordering.TheVariants.{Less, Equal, Greater}
 use Rattle.std.specs.Ordering.{is_lt, ordering_reverse}
 use Rattle.std.proofs.lemmas.Bool.{cases_Bool, false≢true}
 use Rattle.std.proofs.lemmas.Option.{same_Some, none-some}
-use Rattle.predicate_core.proofs.OnceLists.{In, in_map, in_at}
+use Rattle.predicate_core.proofs.OnceLists.{In, in_map, in_at, at_in}
 use Rattle.table_core.specs.declared.task.TaskParts.{TaskParts}
 use Rattle.query_core.specs.Grammar.{Numbered, queries}
 use Rattle.query_core.specs.Rank.{Key, key_order, before}
 use Rattle.query_core.specs.Answers.{RankedQuery, ranked, comes_before, placed, ascending, is_answer, found, answers}
 use Rattle.query_laws.specs.Laws.{key_of, TiesAreEqual, Ascends}
-use Rattle.query_laws.proofs.ListLaws.{at_in}
 use Rattle.query_laws.proofs.MemberLaws.{in_filter}
 use Rattle.query_core.proofs.KeyLaws.{key_order_total}
 use Rattle.query_laws.proofs.KeyLaws.{keys_apart, ties_equal}

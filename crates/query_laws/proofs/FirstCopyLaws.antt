@@ -1,8 +1,10 @@
 -- Parts of lists, and first copies.
-use Rattle.std.proofs.Common.{◌≡◌, refl, sym, ap, ◌∙◌, Bool, true, false, not, List, [], ◌∷◌, inl, inr}
+use Rattle.std.proofs.Common.{◌≡◌, refl, sym, ap, ◌∙◌, Bool, true, false, not, List, [], ◌∷◌, ◌++◌, ◌⊎◌, inl, inr}
 use Rattle.std.specs.Prelude.{filter}
 use Rattle.std.specs.List.{list_any}
 use Rattle.std.proofs.lemmas.Bool.{cases_Bool, false≢true, or_parts, not_from_true, not_from_false}
+use Rattle.std.proofs.lemmas.List.{append-nil}
+use Rattle.std.proofs.lemmas.List.Elements.{filter-append}
 use Rattle.predicate_core.proofs.OnceLists.{In, Once}
 use Rattle.table_core.specs.Rows.{Row}
 use Rattle.table_core.specs.Bag.{same_cells, has_double}
@@ -101,3 +103,45 @@ firsts_single [] none = refl
 firsts_single (x ∷ rows) none =
     let h = or_parts (list_any (λ r. same_cells r x) rows) (has_double rows) none in
     ap (λ t. x ∷ t) (ap (other_rows x) (firsts_single rows h.1) ∙ filter_none (λ r. same_cells r x) rows h.0)
+
+-- a row stands among others, or it doesn't
+in_or_not : (row : Row) (rows : List Row) → In row rows ⊎ (In row rows → ⊥)
+in_or_not row [] = inr (λ i. i)
+in_or_not row (x ∷ rows) =
+    elim (cases_Bool (same_cells row x)) [
+      | inl same ↦ inl (inl ((same_cells_decides row x).0 same))
+      | inr other ↦ elim (in_or_not row rows) [
+        | inl i ↦ inl (inr i)
+        | inr new ↦ inr (λ i. elim i [ inl e ↦ false≢true (sym other ∙ (same_cells_decides row x).1 e) | inr later ↦ new later ])
+      ]
+    ]
+
+-- the other rows where a row comes last that is x, and one that isn't
+other_rows_same : (x row : Row) (rows : List Row) → row ≡ x → other_rows x (rows ++ row ∷ []) ≡ other_rows x rows
+other_rows_same x row rows e =
+    let same : same_cells row x ≡ true = (same_cells_decides row x).1 e in
+    filter-append (λ r. not (same_cells r x)) rows (row ∷ []) ∙ rw same (append-nil (other_rows x rows))
+
+other_rows_new : (x row : Row) (rows : List Row) → (row ≡ x → ⊥) → other_rows x (rows ++ row ∷ []) ≡ other_rows x rows ++ row ∷ []
+other_rows_new x row rows apart =
+    elim (cases_Bool (same_cells row x)) [
+      | inl same ↦ absurd (apart ((same_cells_decides row x).0 same))
+      | inr other ↦ filter-append (λ r. not (same_cells r x)) rows (row ∷ []) ∙ rw other refl
+    ]
+
+-- a row that comes last and didn't stand before is a first copy
+pub firsts_new : (rows : List Row) (row : Row) → (In row rows → ⊥) → firsts (rows ++ row ∷ []) ≡ firsts rows ++ row ∷ []
+firsts_new [] row new = refl
+firsts_new (x ∷ rows) row new =
+    ap (λ t. x ∷ t) (ap (other_rows x) (firsts_new rows row (λ i. new (inr i))) ∙ other_rows_new x row (firsts rows) (λ e. new (inl e)))
+
+-- one that stood before is none
+pub firsts_seen : (rows : List Row) (row : Row) → In row rows → firsts (rows ++ row ∷ []) ≡ firsts rows
+firsts_seen [] row i = absurd i
+firsts_seen (x ∷ rows) row i =
+    elim (in_or_not row rows) [
+      | inl later ↦ ap (λ t. x ∷ other_rows x t) (firsts_seen rows row later)
+      | inr new ↦
+          let first : row ≡ x = elim i [ inl e ↦ e | inr later ↦ absurd (new later) ] in
+          ap (λ t. x ∷ t) (ap (other_rows x) (firsts_new rows row new) ∙ other_rows_same x row (firsts rows) first)
+    ]

@@ -3,7 +3,7 @@ use Rattle.std.proofs.Common.{◌≡◌, refl, sym, ap, ◌∙◌, ℕ, zero, su
 use Rattle.std.specs.Prelude.{slice_get}
 use Rattle.std.proofs.lemmas.Option.{same_Some, none-some, slice_get-map}
 use Rattle.std.proofs.lemmas.List.{length-map}
-use Rattle.predicate_core.proofs.OnceLists.{In, Once, in_map, in_at}
+use Rattle.predicate_core.proofs.OnceLists.{In, Once, in_map, in_at, at_in}
 use Rattle.table_core.specs.Rows.{Row}
 use Rattle.table_core.specs.Bag.{same_cells}
 use Rattle.table_core.proofs.BagLaws.{same_cells_decides}
@@ -12,7 +12,6 @@ use Rattle.query_core.specs.Groups.{aggregate, group_keys, members, group_row, a
 use Rattle.query_core.specs.declared.agg.Agg.{Agg}
 use Rattle.query_laws.specs.Laws.{IsGroupRow}
 use Rattle.query_laws.specs.Parts.{IsPart}
-use Rattle.query_laws.proofs.ListLaws.{at_in}
 use Rattle.query_laws.proofs.MemberLaws.{map_in, in_filter, filter_in}
 use Rattle.query_laws.proofs.FirstCopyLaws.{in_part, kept_part, once_firsts, in_firsts, part_firsts}
 

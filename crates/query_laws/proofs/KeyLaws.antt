@@ -2,12 +2,10 @@
 use Rattle.std.proofs.Common.{◌≡◌, refl, sym, ap, ◌∙◌, subst, ℕ, ◌+◌, ◌≤◌, Bool, true, false, inl, inr, List, [], ◌∷◌, map, Some, option_map, arith}
 use Rattle.std.specs.Prelude.{slice_get}
 use Rattle.std.specs.List.{enumerate_from}
-use Rattle.std.specs.Cmp.{IsTotalOrder}
 use Rattle.std.specs.declared.cmp.Ordering.{Ordering}
 use Rattle.std.specs.declared.cmp.Ordering.TheVariants.{Less, Equal, Greater}
 use Rattle.std.specs.Ordering.{nat_cmp, ordering_then}
 use Rattle.std.specs.Cmp.Lexicographic.{slice_cmp}
-use Rattle.std.proofs.lemmas.Cmp.{on_total, then_total, nat_cmp_total, nat_list_cmp_total}
 use Rattle.std.proofs.lemmas.Bool.{false≢true}
 use Rattle.std.proofs.lemmas.Option.{slice_get-map}
 use Rattle.std.proofs.lemmas.Map.Lookups.{exact_unsigned, exact_bytes}
@@ -84,7 +82,7 @@ once_of_map task n body picks = (λ i. elim i [ inl e ↦ let flags : false ≡ 
 -- the keys of the queries with one body
 once_of_body : (task : TaskParts) (n : ℕ) (body : Tree) → Once (map (key task n) (queries_of_body task body))
 once_of_body task n body =
-    once_joined (key task n) (with_flags body) (maps (columns task body) (types_of task.output)) (once_maps (columns task body) (types_of task.output))
+    once_joined (key task n) (with_flags body) (maps (columns task.inputs body) (types_of task.output)) (once_maps (columns task.inputs body) (types_of task.output))
     (λ picks i. once_of_map task n body picks)
     (λ x y i j a b k l e. let picks : a.picks ≡ b.picks = ap (λ z. z.picks) e in sym (in_flags body x a k).1 ∙ picks ∙ (in_flags body y b l).1)
 

@@ -43,8 +43,8 @@ level_within task (suc n) k within =
 pub level_before : (task : TaskParts) (n : ℕ) → last_level (levels task n) ≡ level task n
 level_before task n = let e : length (levels task n) - 1 ≡ n = omega (arith, levels_length task n) in ap (level_at (levels task n)) e
 
--- the products of two lists, and the pairs of levels
-abbrev pair_with : List Tree → Tree → List (Tree × Tree)
+-- a tree with each of a list, the products of two lists, and the pairs of levels
+abbrev pub pair_with : List Tree → Tree → List (Tree × Tree)
 pair_with rights a = map (λ b. (a, b)) rights
 
 pub in_products : (lefts rights : List Tree) (p : Tree × Tree) → In p (products lefts rights) → In p.0 lefts × In p.1 rights
@@ -56,8 +56,16 @@ in_products lefts rights p i =
 products_in : (lefts rights : List Tree) (a b : Tree) → In a lefts → In b rights → In (a, b) (products lefts rights)
 products_in lefts rights a b left right = flat_map_in (pair_with rights) (a, b) a lefts left (map_in (λ b. (a, b)) b rights right)
 
-abbrev pairs_from : List (List Tree) → ℕ → List (Tree × Tree)
+abbrev pub pairs_from : List (List Tree) → ℕ → List (Tree × Tree)
 pairs_from ls i = products (level_at ls i) (level_at ls (length ls - 1 - i))
+
+-- the pairs of levels are of the level of a number and of the one that makes it up to the next level
+pub in_pairs_of_levels : (ls : List (List Tree)) (p : Tree × Tree) → In p (level_pairs ls) → (i : ℕ) × (i < length ls) × In p.0 (level_at ls i) × In p.1 (level_at ls (length ls - 1 - i))
+in_pairs_of_levels ls p here =
+    let h = in_flat_map (pairs_from ls) p (range_with_len 0 (length ls)) here in
+    let within = in_range 0 (length ls) h.0 h.1 in
+    let both = in_products (level_at ls h.0) (level_at ls (length ls - 1 - h.0)) p h.2 in
+    (h.0, omega (arith, within.1), both.0, both.1)
 
 -- the pairs of the levels are of two levels whose numbers are together that of the last
 abbrev pub PairOf : TaskParts → ℕ → Tree × Tree → Type 0
@@ -66,14 +74,12 @@ PairOf task n p = (i j : ℕ) × (i + j ≡ n) × In p.0 (level task i) × In p.
 pub in_level_pairs : (task : TaskParts) (n : ℕ) (p : Tree × Tree) → In p (level_pairs (levels task n)) → PairOf task n p
 in_level_pairs task n p here =
     let ls = levels task n in
-    let h = in_flat_map (pairs_from ls) p (range_with_len 0 (length ls)) here in
-    let within = in_range 0 (length ls) h.0 h.1 in
+    let h = in_pairs_of_levels ls p here in
     let size = levels_length task n in
-    let both = in_products (level_at ls h.0) (level_at ls (length ls - 1 - h.0)) p h.2 in
     let e : length ls - 1 - h.0 ≡ n - h.0 = omega (arith, size) in
-    let left = in_equal p.0 _ _ (level_within task n h.0 (omega (arith, size, within.1))) both.0 in
-    let right = in_equal p.1 _ _ (ap (level_at ls) e ∙ level_within task n (n - h.0) (omega arith)) both.1 in
-    (h.0, n - h.0, omega (arith, size, within.1), left, right)
+    let left = in_equal p.0 _ _ (level_within task n h.0 (omega (arith, size, h.1))) h.2 in
+    let right = in_equal p.1 _ _ (ap (level_at ls) e ∙ level_within task n (n - h.0) (omega arith)) h.3 in
+    (h.0, n - h.0, omega (arith, size, h.1), left, right)
 
 pub level_pairs_in : (task : TaskParts) (n i j : ℕ) (a b : Tree) → i + j ≡ n → In a (level task i) → In b (level task j) → In (a, b) (level_pairs (levels task n))
 level_pairs_in task n i j a b is left right =

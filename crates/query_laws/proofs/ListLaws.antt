@@ -1,13 +1,7 @@
 -- Membership in lists, by places and from the front.
-use Rattle.std.proofs.Common.{◌≡◌, sym, ap, ℕ, zero, suc, ◌<◌, inl, inr, List, [], ◌∷◌, length, Some, arith}
-use Rattle.std.specs.Prelude.{slice_get, slice_index_or, Contains}
+use Rattle.std.proofs.Common.{◌≡◌, sym, ℕ, zero, suc, ◌<◌, inl, inr, List, [], ◌∷◌, length, arith}
+use Rattle.std.specs.Prelude.{slice_index_or, Contains}
 use Rattle.predicate_core.proofs.OnceLists.{In}
-
--- an element that is in a list has a place there
-pub at_in : {X : Type 0} (x : X) (xs : List X) → In x xs → (i : ℕ) × (slice_get xs i ≡ Some x)
-at_in x [] i = absurd i
-at_in x (y ∷ ys) (inl e) = (zero, ap Some (sym e))
-at_in x (y ∷ ys) (inr i) = let h = at_in x ys i in (suc h.0, h.1)
 
 -- a place below the length has its element
 index_in : {X : Type 0} (xs : List X) (k : ℕ) (x : X) → k < length xs → slice_index_or xs k x ≡ x → In x xs

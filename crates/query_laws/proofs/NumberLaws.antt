@@ -13,11 +13,11 @@ use Rattle.predicate_core.proofs.OnceLists.{In}
 use Rattle.table_core.specs.declared.task.TaskParts.{TaskParts}
 use Rattle.query_core.specs.Tree.{Tree}
 use Rattle.query_core.specs.Tree as t
-use Rattle.query_core.specs.Meaning.{columns}
+use Rattle.query_core.specs.Meaning.{columns, hole_types}
 use Rattle.query_core.specs.Grammar.{predicates, fillings}
 use Rattle.query_core.specs.Rank.{pred_number, pred_numbers}
 use Rattle.query_laws.proofs.MemberLaws.{in_one}
-use Rattle.query_laws.proofs.FillingLaws.{in_filter_fillings, in_join_fillings, in_left_fillings, in_group_fillings, in_union_all_fillings, in_union_fillings}
+use Rattle.query_laws.proofs.FillingLaws.{in_filter_fillings, in_pair_fillings, in_group_fillings, in_union_fillings}
 
 -- the elements at the first places that two tests find are told by these places
 position_at : {X : Type 0} (same : X → X → Bool) → ((a b : X) → Decides (same a b) (a ≡ b)) → (x : X) (xs : List X) → In x xs → slice_get xs (position_or_len (same x) xs) ≡ Some x
@@ -59,11 +59,9 @@ last_same xs bs c d n e = let h = parts_same xs bs (c ∷ []) (d ∷ []) n e in 
 abbrev holes : Tree → ℕ
 holes (t.base table) = 0
 holes (t.filter child p) = holes child + 1
-holes (t.join a b p) = (holes a + holes b) + 1
-holes (t.left a b p) = (holes a + holes b) + 1
+holes (t.pair kind a b p) = (holes a + holes b) + 1
 holes (t.group child keys agg) = holes child
-holes (t.union_all a b) = holes a + holes b
-holes (t.union a b) = holes a + holes b
+holes (t.unite kind a b) = holes a + holes b
 
 one_more : (xs : List ℕ) (n size : ℕ) → length xs ≡ size → length (xs ++ n ∷ []) ≡ size + 1
 one_more xs n size is = let long = length-append xs (n ∷ []) in omega (arith, is, long)
@@ -79,21 +77,15 @@ numbers_of_holes : (task : TaskParts) (s x : Tree) → In x (fillings task s) �
 numbers_of_holes task (t.base table) x i = rw (in_one x (t.base table) i) refl
 numbers_of_holes task (t.filter child p) x i =
     let h = in_filter_fillings task child p x i in
-    rw h.4 (one_more (pred_numbers task h.0) (pred_number task (columns task h.0) h.1) (holes child) (numbers_of_holes task child h.0 h.2))
-numbers_of_holes task (t.join a b p) x i =
-    let h = in_join_fillings task a b p x i in
-    rw h.6 (two_and_one (pred_numbers task h.0) (pred_numbers task h.1) (pred_number task (columns task h.0 ++ columns task h.1) h.2) (holes a) (holes b) (numbers_of_holes task a h.0 h.3) (numbers_of_holes task b h.1 h.4))
-numbers_of_holes task (t.left a b p) x i =
-    let h = in_left_fillings task a b p x i in
-    rw h.6 (two_and_one (pred_numbers task h.0) (pred_numbers task h.1) (pred_number task (columns task h.0 ++ columns task h.1) h.2) (holes a) (holes b) (numbers_of_holes task a h.0 h.3) (numbers_of_holes task b h.1 h.4))
+    rw h.4 (one_more (pred_numbers task h.0) (pred_number task (columns task.inputs h.0) h.1) (holes child) (numbers_of_holes task child h.0 h.2))
+numbers_of_holes task (t.pair kind a b p) x i =
+    let h = in_pair_fillings task kind a b p x i in
+    rw h.6 (two_and_one (pred_numbers task h.0) (pred_numbers task h.1) (pred_number task (hole_types task.inputs h.0 h.1) h.2) (holes a) (holes b) (numbers_of_holes task a h.0 h.3) (numbers_of_holes task b h.1 h.4))
 numbers_of_holes task (t.group child keys agg) x i =
     let h = in_group_fillings task child keys agg x i in
     rw h.2 (numbers_of_holes task child h.0 h.1)
-numbers_of_holes task (t.union_all a b) x i =
-    let h = in_union_all_fillings task a b x i in
-    rw h.4 (two_sizes (pred_numbers task h.0) (pred_numbers task h.1) (holes a) (holes b) (numbers_of_holes task a h.0 h.2) (numbers_of_holes task b h.1 h.3))
-numbers_of_holes task (t.union a b) x i =
-    let h = in_union_fillings task a b x i in
+numbers_of_holes task (t.unite kind a b) x i =
+    let h = in_union_fillings task kind a b x i in
     rw h.4 (two_sizes (pred_numbers task h.0) (pred_numbers task h.1) (holes a) (holes b) (numbers_of_holes task a h.0 h.2) (numbers_of_holes task b h.1 h.3))
 
 -- two fillings of a skeleton have as many numbers
@@ -101,22 +93,22 @@ as_many : (task : TaskParts) (s x y : Tree) → In x (fillings task s) → In y 
 as_many task s x y i j = numbers_of_holes task s x i ∙ sym (numbers_of_holes task s y j)
 
 -- two nodes of equal parts, whose predicates have one number, are one
-filter_same : (task : TaskParts) (c d : Tree) (p q : Pred) → c ≡ d → In p (predicates task (columns task c)) → In q (predicates task (columns task d))
-    → pred_number task (columns task c) p ≡ pred_number task (columns task d) q → t.filter c p ≡ t.filter d q
+filter_same : (task : TaskParts) (c d : Tree) (p q : Pred) → c ≡ d → In p (predicates task (columns task.inputs c)) → In q (predicates task (columns task.inputs d))
+    → pred_number task (columns task.inputs c) p ≡ pred_number task (columns task.inputs d) q → t.filter c p ≡ t.filter d q
 filter_same task c d p q same i j e =
-    let k : In q (predicates task (columns task c)) = subst (λ (z : Tree). In q (predicates task (columns task z))) (sym same) j in
-    let n : pred_number task (columns task c) p ≡ pred_number task (columns task c) q = e ∙ ap (λ z. pred_number task (columns task z) q) (sym same) in
-    let preds : p ≡ q = number_tells task (columns task c) p q i k n in
+    let k : In q (predicates task (columns task.inputs c)) = subst (λ (z : Tree). In q (predicates task (columns task.inputs z))) (sym same) j in
+    let n : pred_number task (columns task.inputs c) p ≡ pred_number task (columns task.inputs c) q = e ∙ ap (λ z. pred_number task (columns task.inputs z) q) (sym same) in
+    let preds : p ≡ q = number_tells task (columns task.inputs c) p q i k n in
     cc
 
 -- the predicates of two joins of equal parts are one where they have one number
-pair_pred_same : (task : TaskParts) (a b c d : Tree) (p q : Pred) → a ≡ c → b ≡ d → In p (predicates task (columns task a ++ columns task b)) → In q (predicates task (columns task c ++ columns task d))
-    → pred_number task (columns task a ++ columns task b) p ≡ pred_number task (columns task c ++ columns task d) q → p ≡ q
+pair_pred_same : (task : TaskParts) (a b c d : Tree) (p q : Pred) → a ≡ c → b ≡ d → In p (predicates task (hole_types task.inputs a b)) → In q (predicates task (hole_types task.inputs c d))
+    → pred_number task (hole_types task.inputs a b) p ≡ pred_number task (hole_types task.inputs c d) q → p ≡ q
 pair_pred_same task a b c d p q left right i j e =
-    let types : columns task c ++ columns task d ≡ columns task a ++ columns task b = cc in
-    let k : In q (predicates task (columns task a ++ columns task b)) = rw types at j in
-    let n : pred_number task (columns task a ++ columns task b) p ≡ pred_number task (columns task a ++ columns task b) q = rw types at e in
-    number_tells task (columns task a ++ columns task b) p q i k n
+    let types : hole_types task.inputs c d ≡ hole_types task.inputs a b = cc in
+    let k : In q (predicates task (hole_types task.inputs a b)) = rw types at j in
+    let n : pred_number task (hole_types task.inputs a b) p ≡ pred_number task (hole_types task.inputs a b) q = rw types at e in
+    number_tells task (hole_types task.inputs a b) p q i k n
 
 -- the numbers of two parts and of the node over them
 three_same : (xs bs cs ds : List ℕ) (m n : ℕ) → length xs ≡ length cs → length bs ≡ length ds → (xs ++ bs) ++ m ∷ [] ≡ (cs ++ ds) ++ n ∷ [] → (xs ≡ cs) × (bs ≡ ds) × (m ≡ n)
@@ -138,25 +130,15 @@ numbers_tell task (t.filter child p) x y i j e =
     let parts = last_same (pred_numbers task h.0) (pred_numbers task k.0) _ _ (as_many task child h.0 k.0 h.2 k.2) numbers in
     let node = filter_same task h.0 k.0 h.1 k.1 (numbers_tell task child h.0 k.0 h.2 k.2 parts.0) (inr h.3) (inr k.3) parts.1 in
     h.4 ∙ node ∙ sym k.4
-numbers_tell task (t.join a b p) x y i j e =
-    let h = in_join_fillings task a b p x i in
-    let k = in_join_fillings task a b p y j in
-    let numbers : pred_numbers task (t.join h.0 h.1 h.2) ≡ pred_numbers task (t.join k.0 k.1 k.2) = sym (ap (pred_numbers task) h.6) ∙ e ∙ ap (pred_numbers task) k.6 in
+numbers_tell task (t.pair kind a b p) x y i j e =
+    let h = in_pair_fillings task kind a b p x i in
+    let k = in_pair_fillings task kind a b p y j in
+    let numbers : pred_numbers task (t.pair kind h.0 h.1 h.2) ≡ pred_numbers task (t.pair kind k.0 k.1 k.2) = sym (ap (pred_numbers task) h.6) ∙ e ∙ ap (pred_numbers task) k.6 in
     let parts = three_same (pred_numbers task h.0) (pred_numbers task h.1) (pred_numbers task k.0) (pred_numbers task k.1) _ _ (as_many task a h.0 k.0 h.3 k.3) (as_many task b h.1 k.1 h.4 k.4) numbers in
     let left : h.0 ≡ k.0 = numbers_tell task a h.0 k.0 h.3 k.3 parts.0 in
     let right : h.1 ≡ k.1 = numbers_tell task b h.1 k.1 h.4 k.4 parts.1 in
     let preds : h.2 ≡ k.2 = pair_pred_same task h.0 h.1 k.0 k.1 h.2 k.2 left right h.5 k.5 parts.2 in
-    let node : t.join h.0 h.1 h.2 ≡ t.join k.0 k.1 k.2 = cc in
-    h.6 ∙ node ∙ sym k.6
-numbers_tell task (t.left a b p) x y i j e =
-    let h = in_left_fillings task a b p x i in
-    let k = in_left_fillings task a b p y j in
-    let numbers : pred_numbers task (t.left h.0 h.1 h.2) ≡ pred_numbers task (t.left k.0 k.1 k.2) = sym (ap (pred_numbers task) h.6) ∙ e ∙ ap (pred_numbers task) k.6 in
-    let parts = three_same (pred_numbers task h.0) (pred_numbers task h.1) (pred_numbers task k.0) (pred_numbers task k.1) _ _ (as_many task a h.0 k.0 h.3 k.3) (as_many task b h.1 k.1 h.4 k.4) numbers in
-    let left : h.0 ≡ k.0 = numbers_tell task a h.0 k.0 h.3 k.3 parts.0 in
-    let right : h.1 ≡ k.1 = numbers_tell task b h.1 k.1 h.4 k.4 parts.1 in
-    let preds : h.2 ≡ k.2 = pair_pred_same task h.0 h.1 k.0 k.1 h.2 k.2 left right h.5 k.5 parts.2 in
-    let node : t.left h.0 h.1 h.2 ≡ t.left k.0 k.1 k.2 = cc in
+    let node : t.pair kind h.0 h.1 h.2 ≡ t.pair kind k.0 k.1 k.2 = cc in
     h.6 ∙ node ∙ sym k.6
 numbers_tell task (t.group child keys agg) x y i j e =
     let h = in_group_fillings task child keys agg x i in
@@ -164,21 +146,12 @@ numbers_tell task (t.group child keys agg) x y i j e =
     let numbers : pred_numbers task h.0 ≡ pred_numbers task k.0 = sym (ap (pred_numbers task) h.2) ∙ e ∙ ap (pred_numbers task) k.2 in
     let part : h.0 ≡ k.0 = numbers_tell task child h.0 k.0 h.1 k.1 numbers in
     h.2 ∙ ap (λ c. t.group c keys agg) part ∙ sym k.2
-numbers_tell task (t.union_all a b) x y i j e =
-    let h = in_union_all_fillings task a b x i in
-    let k = in_union_all_fillings task a b y j in
+numbers_tell task (t.unite kind a b) x y i j e =
+    let h = in_union_fillings task kind a b x i in
+    let k = in_union_fillings task kind a b y j in
     let numbers : pred_numbers task h.0 ++ pred_numbers task h.1 ≡ pred_numbers task k.0 ++ pred_numbers task k.1 = sym (ap (pred_numbers task) h.4) ∙ e ∙ ap (pred_numbers task) k.4 in
     let parts = parts_same (pred_numbers task h.0) (pred_numbers task k.0) (pred_numbers task h.1) (pred_numbers task k.1) (as_many task a h.0 k.0 h.2 k.2) numbers in
     let left : h.0 ≡ k.0 = numbers_tell task a h.0 k.0 h.2 k.2 parts.0 in
     let right : h.1 ≡ k.1 = numbers_tell task b h.1 k.1 h.3 k.3 parts.1 in
-    let node : t.union_all h.0 h.1 ≡ t.union_all k.0 k.1 = cc in
-    h.4 ∙ node ∙ sym k.4
-numbers_tell task (t.union a b) x y i j e =
-    let h = in_union_fillings task a b x i in
-    let k = in_union_fillings task a b y j in
-    let numbers : pred_numbers task h.0 ++ pred_numbers task h.1 ≡ pred_numbers task k.0 ++ pred_numbers task k.1 = sym (ap (pred_numbers task) h.4) ∙ e ∙ ap (pred_numbers task) k.4 in
-    let parts = parts_same (pred_numbers task h.0) (pred_numbers task k.0) (pred_numbers task h.1) (pred_numbers task k.1) (as_many task a h.0 k.0 h.2 k.2) numbers in
-    let left : h.0 ≡ k.0 = numbers_tell task a h.0 k.0 h.2 k.2 parts.0 in
-    let right : h.1 ≡ k.1 = numbers_tell task b h.1 k.1 h.3 k.3 parts.1 in
-    let node : t.union h.0 h.1 ≡ t.union k.0 k.1 = cc in
+    let node : t.unite kind h.0 h.1 ≡ t.unite kind k.0 k.1 = cc in
     h.4 ∙ node ∙ sym k.4

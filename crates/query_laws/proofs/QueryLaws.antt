@@ -17,20 +17,19 @@ use Rattle.query_core.specs.Meaning.{columns}
 use Rattle.query_core.specs.Grammar.{level_at, levels, next_level, skeletons, fillings, places_of, maps, with_flags, queries_of_body, queries_of, numbered}
 use Rattle.query_core.proofs.MapLaws.{map_twice}
 use Rattle.query_laws.specs.Laws.{plain_queries}
+use Rattle.query_laws.proofs.LevelLaws.{in_pairs_of_levels}
 use Rattle.query_laws.proofs.MemberLaws.{in_one, in_flat_map}
 use Rattle.query_laws.proofs.JoinedLists.{once_one, once_flat_map, once_flat_map_in, Each, each_map, IsFrom, from_both}
-use Rattle.query_laws.proofs.FillingLaws.{in_filter_fillings, in_join_fillings, in_left_fillings, in_group_fillings, in_union_all_fillings, in_union_fillings, once_fillings}
-use Rattle.query_laws.proofs.SkeletonOnceLaws.{in_level_pairs, next_each, levels_each, in_levels, skeletons_stand_once}
+use Rattle.query_laws.proofs.FillingLaws.{in_filter_fillings, in_pair_fillings, in_group_fillings, in_union_fillings, once_fillings}
+use Rattle.query_laws.proofs.SkeletonOnceLaws.{next_each, levels_each, in_levels, skeletons_stand_once}
 
 -- a tree with each of its predicates open
 abbrev pub opened : Tree → Tree
 opened (t.base table) = t.base table
 opened (t.filter child p) = t.filter (opened child) Always
-opened (t.join a b p) = t.join (opened a) (opened b) Always
-opened (t.left a b p) = t.left (opened a) (opened b) Always
+opened (t.pair kind a b p) = t.pair kind (opened a) (opened b) Always
 opened (t.group child keys agg) = t.group (opened child) keys agg
-opened (t.union_all a b) = t.union_all (opened a) (opened b)
-opened (t.union a b) = t.union (opened a) (opened b)
+opened (t.unite kind a b) = t.unite kind (opened a) (opened b)
 
 -- what fills a skeleton tells it
 pub opened_fillings : (task : TaskParts) (skeleton body : Tree) → In body (fillings task skeleton) → opened body ≡ opened skeleton
@@ -38,21 +37,15 @@ opened_fillings task (t.base table) body i = ap opened (in_one body (t.base tabl
 opened_fillings task (t.filter child p) body i =
     let h = in_filter_fillings task child p body i in
     ap opened h.4 ∙ ap (λ c. t.filter c Always) (opened_fillings task child h.0 h.2)
-opened_fillings task (t.join a b p) body i =
-    let h = in_join_fillings task a b p body i in
-    ap opened h.6 ∙ ap₂ (λ x y. t.join x y Always) (opened_fillings task a h.0 h.3) (opened_fillings task b h.1 h.4)
-opened_fillings task (t.left a b p) body i =
-    let h = in_left_fillings task a b p body i in
-    ap opened h.6 ∙ ap₂ (λ x y. t.left x y Always) (opened_fillings task a h.0 h.3) (opened_fillings task b h.1 h.4)
+opened_fillings task (t.pair kind a b p) body i =
+    let h = in_pair_fillings task kind a b p body i in
+    ap opened h.6 ∙ ap₂ (λ x y. t.pair kind x y Always) (opened_fillings task a h.0 h.3) (opened_fillings task b h.1 h.4)
 opened_fillings task (t.group child keys agg) body i =
     let h = in_group_fillings task child keys agg body i in
     ap opened h.2 ∙ ap (λ c. t.group c keys agg) (opened_fillings task child h.0 h.1)
-opened_fillings task (t.union_all a b) body i =
-    let h = in_union_all_fillings task a b body i in
-    ap opened h.4 ∙ ap₂ t.union_all (opened_fillings task a h.0 h.2) (opened_fillings task b h.1 h.3)
-opened_fillings task (t.union a b) body i =
-    let h = in_union_fillings task a b body i in
-    ap opened h.4 ∙ ap₂ t.union (opened_fillings task a h.0 h.2) (opened_fillings task b h.1 h.3)
+opened_fillings task (t.unite kind a b) body i =
+    let h = in_union_fillings task kind a b body i in
+    ap opened h.4 ∙ ap₂ (t.unite kind) (opened_fillings task a h.0 h.2) (opened_fillings task b h.1 h.3)
 
 -- the skeletons are open already
 
@@ -61,10 +54,10 @@ opened_next task ls each =
     next_each task ls (λ x. opened x ≡ x)
     (λ child i. ap (λ c. t.filter c Always) (each (length ls - 1) child i))
     (λ p i.
-    let h = in_level_pairs ls p i in
+    let h = in_pairs_of_levels ls p i in
     let a = each h.0 p.0 h.2 in
     let b = each (length ls - 1 - h.0) p.1 h.3 in
-    (ap₂ (λ x y. t.join x y Always) a b, ap₂ (λ x y. t.left x y Always) a b, ap₂ t.union_all a b, ap₂ t.union a b))
+    (λ kind. ap₂ (λ x y. t.pair kind x y Always) a b, λ kind. ap₂ (t.unite kind) a b))
     (λ keys agg child i. ap (λ c. t.group c keys agg) (each (length ls - 1) child i))
 
 pub opened_skeletons : (task : TaskParts) → Each (λ x. opened x ≡ x) (skeletons task)
@@ -113,9 +106,9 @@ in_flags body picks q (inr (inr i)) = absurd i
 once_flags : (body : Tree) (picks : List ℕ) → Once (with_flags body picks)
 once_flags body picks = (λ i. elim i [ inl e ↦ false≢true (ap (λ s. s.distinct) e) | inr j ↦ absurd j ], (λ i. absurd i, tt))
 
-pub in_body_queries : (task : TaskParts) (body : Tree) (q : Select) → In q (queries_of_body task body) → (q.body ≡ body) × In q.picks (maps (columns task body) (types_of task.output))
+pub in_body_queries : (task : TaskParts) (body : Tree) (q : Select) → In q (queries_of_body task body) → (q.body ≡ body) × In q.picks (maps (columns task.inputs body) (types_of task.output))
 in_body_queries task body q i =
-    let picked = maps (columns task body) (types_of task.output) in
+    let picked = maps (columns task.inputs body) (types_of task.output) in
     let h = in_flat_map (with_flags body) q picked i in
     let g = in_flags body h.0 q h.2 in
     (g.0, in_same q.picks h.0 picked g.1 h.1)
@@ -123,13 +116,13 @@ in_body_queries task body q i =
 once_body_queries : (task : TaskParts) (body : Tree) → Once (queries_of_body task body)
 once_body_queries task body =
     once_flat_map (with_flags body) (once_flags body) (λ picks others q i j. sym (in_flags body picks q i).1 ∙ (in_flags body others q j).1)
-    (maps (columns task body) (types_of task.output)) (once_maps (columns task body) (types_of task.output))
+    (maps (columns task.inputs body) (types_of task.output)) (once_maps (columns task.inputs body) (types_of task.output))
 
-pub in_queries_of : (task : TaskParts) (skeleton : Tree) (q : Select) → In q (queries_of task skeleton) → In q.body (fillings task skeleton) × In q.picks (maps (columns task q.body) (types_of task.output))
+pub in_queries_of : (task : TaskParts) (skeleton : Tree) (q : Select) → In q (queries_of task skeleton) → In q.body (fillings task skeleton) × In q.picks (maps (columns task.inputs q.body) (types_of task.output))
 in_queries_of task skeleton q i =
     let h = in_flat_map (queries_of_body task) q (fillings task skeleton) i in
     let g = in_body_queries task h.0 q h.2 in
-    (in_same q.body h.0 (fillings task skeleton) g.0 h.1, subst (λ body. In q.picks (maps (columns task body) (types_of task.output))) (sym g.0) g.1)
+    (in_same q.body h.0 (fillings task skeleton) g.0 h.1, subst (λ body. In q.picks (maps (columns task.inputs body) (types_of task.output))) (sym g.0) g.1)
 
 pub once_queries_of : (task : TaskParts) (skeleton : Tree) → Once (queries_of task skeleton)
 once_queries_of task skeleton =

@@ -9,7 +9,7 @@ use Rattle.query_core.specs.Groups.{group_keys, members}
 use Rattle.query_core.specs.declared.agg.Agg.{Agg}
 use Rattle.query_laws.specs.Laws.{AreFirstCopies, GroupsByKey, GroupsHaveMembers, GroupsByMembers, MembersOfKept, GroupsOfPart}
 use Rattle.query_laws.proofs.ListLaws.{contains_in, in_contains}
-use Rattle.query_laws.proofs.FirstCopyLaws.{filter_swap, in_part, once_firsts, in_firsts, part_firsts, firsts_single}
+use Rattle.query_laws.proofs.FirstCopyLaws.{filter_swap, in_part, once_firsts, in_firsts, part_firsts, firsts_single, firsts_new, firsts_seen}
 use Rattle.query_laws.proofs.GroupLaws.{once_keys, in_keys, row_of_key, keys_of_part, in_members, from_members, members_part, group_row_is, grouped_length, grouped_at, grouped_in}
 
 pub first_copies : (rows : List Row) → AreFirstCopies rows
@@ -21,6 +21,10 @@ first_copies rows = (
   ),
   part_firsts rows,
   firsts_single rows,
+  λ row. (
+    λ c. firsts_seen rows row (contains_in rows row c),
+    λ new. firsts_new rows row (λ i. new (in_contains rows row i)),
+  ),
 )
 
 pub groups_by_key : (keys : List ℕ) (rows : List Row) → GroupsByKey keys rows

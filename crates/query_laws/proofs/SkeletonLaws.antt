@@ -6,17 +6,21 @@ use Rattle.std.proofs.lemmas.Bool.{and_parts, and_from, ltb-true, lt-ltb, leb-tr
 use Rattle.std.proofs.lemmas.Option.{slice_get_within}
 use Rattle.predicate_core.specs.declared.pred.Pred.{Pred}
 use Rattle.predicate_core.specs.declared.pred.Pred.TheVariants.{Always}
-use Rattle.predicate_core.proofs.OnceLists.{In, in_same, in_map}
+use Rattle.predicate_core.proofs.OnceLists.{In, in_same, in_map, at_in}
 use Rattle.predicate_core.proofs.SameLaws.{same_pred_decides}
 use Rattle.table_core.specs.declared.task.TaskParts.{TaskParts}
 use Rattle.query_core.specs.Tree.{Tree}
 use Rattle.query_core.specs.Tree as t
 use Rattle.query_core.specs.Meaning.{columns}
-use Rattle.query_core.specs.Grammar.{takes_filter, may_meet, in_order, same_types, level_at, level_pairs, last_level, filters_over, joins_of, lefts_of, union_alls_of, unions_of, key_lists, agg_list, groups_of, next_level, bases, levels, skeletons}
+use Rattle.query_core.specs.Grammar.{takes_filter, may_pair, may_unite, level_at, level_pairs, last_level, filters_over, pairs_of, unions_of, key_lists, agg_list, groups_of, next_level, bases, levels, skeletons}
 use Rattle.query_core.specs.declared.agg.Agg.{Agg}
+use Rattle.query_core.specs.declared.kinds.Pairing.{Pairing}
+use Rattle.query_core.specs.declared.kinds.Pairing.TheVariants.{Join, Left}
+use Rattle.query_core.specs.declared.kinds.Uniting.{Uniting}
+use Rattle.query_core.specs.declared.kinds.Uniting.TheVariants.{All, Firsts}
 use Rattle.query_laws.specs.Laws.{ListsSkeletons, LevelsByOperators}
-use Rattle.query_laws.specs.Skeleton.{operators, is_open, are_keys, is_allowed, may_join, may_unite, is_formed}
-use Rattle.query_laws.proofs.ListLaws.{at_in, contains_in, in_contains}
+use Rattle.query_laws.specs.Skeleton.{operators, is_open, are_keys, is_allowed, is_formed}
+use Rattle.query_laws.proofs.ListLaws.{contains_in, in_contains}
 use Rattle.query_laws.proofs.MemberLaws.{in_equal, map_in, in_kept, kept_in, in_flat_map, flat_map_in, in_range, range_in, InSix, in_six, six_in}
 use Rattle.query_laws.proofs.GroupKeyLaws.{keys_fit, keys_listed, aggs_allowed, aggs_listed}
 use Rattle.query_laws.proofs.LevelLaws.{level, levels_length, level_next, level_within, level_before, in_level_pairs, level_pairs_in}
@@ -31,19 +35,19 @@ Meet task n p = (is_formed task p.0 ≡ true) × (is_formed task p.1 ≡ true) �
 
 -- the kinds of the next level
 abbrev InNext : TaskParts → List Tree → List (Tree × Tree) → Tree → Type 0
-InNext task last ps tree = InSix tree (filters_over last) (joins_of task ps) (lefts_of task ps) (flat_map (groups_of task) last) (union_alls_of task ps) (unions_of task ps)
+InNext task last ps tree = InSix tree (filters_over last) (pairs_of task Join ps) (pairs_of task Left ps) (flat_map (groups_of task) last) (unions_of task All ps) (unions_of task Firsts ps)
 
 in_next : (task : TaskParts) (ls : List (List Tree)) (tree : Tree) → In tree (next_level task ls) → InNext task (last_level ls) (level_pairs ls) tree
 in_next task ls tree i =
     let last = last_level ls in
     let ps = level_pairs ls in
-    in_six tree (filters_over last) (joins_of task ps) (lefts_of task ps) (flat_map (groups_of task) last) (union_alls_of task ps) (unions_of task ps) i
+    in_six tree (filters_over last) (pairs_of task Join ps) (pairs_of task Left ps) (flat_map (groups_of task) last) (unions_of task All ps) (unions_of task Firsts ps) i
 
 next_in : (task : TaskParts) (ls : List (List Tree)) (tree : Tree) → InNext task (last_level ls) (level_pairs ls) tree → In tree (next_level task ls)
 next_in task ls tree i =
     let last = last_level ls in
     let ps = level_pairs ls in
-    six_in tree (filters_over last) (joins_of task ps) (lefts_of task ps) (flat_map (groups_of task) last) (union_alls_of task ps) (unions_of task ps) i
+    six_in tree (filters_over last) (pairs_of task Join ps) (pairs_of task Left ps) (flat_map (groups_of task) last) (unions_of task All ps) (unions_of task Firsts ps) i
 
 -- what a level has is formed and has so many operators
 stands_as : (task : TaskParts) (n : ℕ) (tree other : Tree) → tree ≡ other → Stands task n other → Stands task n tree
@@ -66,7 +70,7 @@ groups_stand : (task : TaskParts) (n : ℕ) (tree : Tree) (last : List Tree) →
 groups_stand task n tree last lasts i =
     let h = in_flat_map (groups_of task) tree last i in
     let child = lasts h.0 h.1 in
-    let types = columns task h.0 in
+    let types = columns task.inputs h.0 in
     let k = in_flat_map (λ keys. map (t.group h.0 keys) (agg_list task.aggregates types keys)) tree (key_lists (length types)) h.2 in
     let g = in_map (t.group h.0 k.0) tree (agg_list task.aggregates types k.0) k.2 in
     let keyed = keys_fit (length types) k.0 k.1 in
@@ -93,18 +97,21 @@ and_true true true = refl
 and_true true false = refl
 and_true false y = refl
 
+paired_stand : (task : TaskParts) (n : ℕ) (tree : Tree) (kind : Pairing) (ps : List (Tree × Tree)) → ((p : Tree × Tree) → In p ps → Meet task n p) → In tree (pairs_of task kind ps) → Stands task (suc n) tree
+paired_stand task n tree kind ps pairs i =
+    pairs_stand task n tree ps (λ p. t.pair kind p.0 p.1 Always) (may_pair task kind) (λ p. and_true (is_formed task p.0 && is_formed task p.1) (may_pair task kind p)) (λ p. refl) pairs i
+
+united_stand : (task : TaskParts) (n : ℕ) (tree : Tree) (kind : Uniting) (ps : List (Tree × Tree)) → ((p : Tree × Tree) → In p ps → Meet task n p) → In tree (unions_of task kind ps) → Stands task (suc n) tree
+united_stand task n tree kind ps pairs i = pairs_stand task n tree ps (λ p. t.unite kind p.0 p.1) (may_unite task) (λ p. refl) (λ p. refl) pairs i
+
 next_stands : (task : TaskParts) (n : ℕ) (tree : Tree) (last : List Tree) (ps : List (Tree × Tree)) → ((child : Tree) → In child last → Stands task n child)
     → ((p : Tree × Tree) → In p ps → Meet task n p) → InNext task last ps tree → Stands task (suc n) tree
 next_stands task n tree last ps lasts pairs (inl i) = filters_stand task n tree last lasts i
-next_stands task n tree last ps lasts pairs (inr (inl i)) =
-    pairs_stand task n tree ps (λ p. t.join p.0 p.1 Always) (λ p. may_meet task p && in_order p) (λ p. and_true (is_formed task p.0 && is_formed task p.1) (may_join task p.0 p.1)) (λ p. refl) pairs i
-next_stands task n tree last ps lasts pairs (inr (inr (inl i))) =
-    pairs_stand task n tree ps (λ p. t.left p.0 p.1 Always) (may_meet task) (λ p. and_true (is_formed task p.0 && is_formed task p.1) (may_meet task p)) (λ p. refl) pairs i
+next_stands task n tree last ps lasts pairs (inr (inl i)) = paired_stand task n tree Join ps pairs i
+next_stands task n tree last ps lasts pairs (inr (inr (inl i))) = paired_stand task n tree Left ps pairs i
 next_stands task n tree last ps lasts pairs (inr (inr (inr (inl i)))) = groups_stand task n tree last lasts i
-next_stands task n tree last ps lasts pairs (inr (inr (inr (inr (inl i))))) =
-    pairs_stand task n tree ps (λ p. t.union_all p.0 p.1) (λ p. (may_meet task p && in_order p) && same_types task p) (λ p. refl) (λ p. refl) pairs i
-next_stands task n tree last ps lasts pairs (inr (inr (inr (inr (inr i))))) =
-    pairs_stand task n tree ps (λ p. t.union p.0 p.1) (λ p. (may_meet task p && in_order p) && same_types task p) (λ p. refl) (λ p. refl) pairs i
+next_stands task n tree last ps lasts pairs (inr (inr (inr (inr (inl i))))) = united_stand task n tree All ps pairs i
+next_stands task n tree last ps lasts pairs (inr (inr (inr (inr (inr i))))) = united_stand task n tree Firsts ps pairs i
 
 -- the next level, where the levels so far have what stands
 level_stands : (task : TaskParts) (n : ℕ) (tree : Tree) → ((k : ℕ) (part : Tree) → k ≤ n → In part (level task k) → Stands task k part) → In tree (level task (suc n)) → Stands task (suc n) tree
@@ -155,29 +162,30 @@ filter_listed child p last fits i =
     in_same (t.filter child p) _ (filters_over last) (ap (t.filter child) (always_is p both.1)) (kept_in (λ x. t.filter x Always) takes_filter child last both.0 i)
 
 group_listed : (task : TaskParts) (child : Tree) (keys : List ℕ) (agg : Agg) (last : List Tree)
-    → (are_keys (length (columns task child)) keys && is_allowed task.aggregates (columns task child) keys agg) ≡ true → In child last → In (t.group child keys agg) (flat_map (groups_of task) last)
+    → (are_keys (length (columns task.inputs child)) keys && is_allowed task.aggregates (columns task.inputs child) keys agg) ≡ true → In child last → In (t.group child keys agg) (flat_map (groups_of task) last)
 group_listed task child keys agg last fits i =
-    let types = columns task child in
+    let types = columns task.inputs child in
     let both = and_parts (are_keys (length types) keys) (is_allowed task.aggregates types keys agg) fits in
     let made = map_in (t.group child keys) agg (agg_list task.aggregates types keys) (aggs_listed task.aggregates types keys agg both.1) in
     flat_map_in (groups_of task) (t.group child keys agg) child last i
     (flat_map_in (λ ks. map (t.group child ks) (agg_list task.aggregates types ks)) (t.group child keys agg) keys (key_lists (length types)) (keys_listed (length types) keys both.0) made)
 
-join_listed : (task : TaskParts) (a b : Tree) (p : Pred) (ps : List (Tree × Tree)) → (may_join task a b && is_open p) ≡ true → In (a, b) ps → In (t.join a b p) (joins_of task ps)
-join_listed task a b p ps fits i =
-    let both = and_parts (may_join task a b) (is_open p) fits in
-    in_same (t.join a b p) _ (joins_of task ps) (ap (t.join a b) (always_is p both.1)) (kept_in (λ q. t.join q.0 q.1 Always) (λ q. may_meet task q && in_order q) (a, b) ps both.0 i)
+pair_listed : (task : TaskParts) (kind : Pairing) (a b : Tree) (p : Pred) (ps : List (Tree × Tree)) → (may_pair task kind (a, b) && is_open p) ≡ true → In (a, b) ps → In (t.pair kind a b p) (pairs_of task kind ps)
+pair_listed task kind a b p ps fits i =
+    let both = and_parts (may_pair task kind (a, b)) (is_open p) fits in
+    in_same (t.pair kind a b p) _ (pairs_of task kind ps) (ap (t.pair kind a b) (always_is p both.1)) (kept_in (λ q. t.pair kind q.0 q.1 Always) (may_pair task kind) (a, b) ps both.0 i)
 
-left_listed : (task : TaskParts) (a b : Tree) (p : Pred) (ps : List (Tree × Tree)) → (may_meet task (a, b) && is_open p) ≡ true → In (a, b) ps → In (t.left a b p) (lefts_of task ps)
-left_listed task a b p ps fits i =
-    let both = and_parts (may_meet task (a, b)) (is_open p) fits in
-    in_same (t.left a b p) _ (lefts_of task ps) (ap (t.left a b) (always_is p both.1)) (kept_in (λ q. t.left q.0 q.1 Always) (may_meet task) (a, b) ps both.0 i)
+union_listed : (task : TaskParts) (kind : Uniting) (a b : Tree) (ps : List (Tree × Tree)) → may_unite task (a, b) ≡ true → In (a, b) ps → In (t.unite kind a b) (unions_of task kind ps)
+union_listed task kind a b ps fits i = kept_in (λ q. t.unite kind q.0 q.1) (may_unite task) (a, b) ps fits i
 
-union_all_listed : (task : TaskParts) (a b : Tree) (ps : List (Tree × Tree)) → may_unite task a b ≡ true → In (a, b) ps → In (t.union_all a b) (union_alls_of task ps)
-union_all_listed task a b ps fits i = kept_in (λ q. t.union_all q.0 q.1) (λ q. (may_meet task q && in_order q) && same_types task q) (a, b) ps fits i
+-- a pair and a union of a kind stand among those of their kind
+pair_in_next : (task : TaskParts) (kind : Pairing) (tree : Tree) (last : List Tree) (ps : List (Tree × Tree)) → In tree (pairs_of task kind ps) → InNext task last ps tree
+pair_in_next task Join tree last ps i = inr (inl i)
+pair_in_next task Left tree last ps i = inr (inr (inl i))
 
-union_listed : (task : TaskParts) (a b : Tree) (ps : List (Tree × Tree)) → may_unite task a b ≡ true → In (a, b) ps → In (t.union a b) (unions_of task ps)
-union_listed task a b ps fits i = kept_in (λ q. t.union q.0 q.1) (λ q. (may_meet task q && in_order q) && same_types task q) (a, b) ps fits i
+union_in_next : (task : TaskParts) (kind : Uniting) (tree : Tree) (last : List Tree) (ps : List (Tree × Tree)) → In tree (unions_of task kind ps) → InNext task last ps tree
+union_in_next task All tree last ps i = inr (inr (inr (inr (inl i))))
+union_in_next task Firsts tree last ps i = inr (inr (inr (inr (inr i))))
 
 -- the last level and the pairs of levels have the parts
 last_in : (task : TaskParts) (child : Tree) → In child (level task (operators child)) → In child (last_level (levels task (operators child)))
@@ -197,21 +205,17 @@ complete task (t.base table) formed =
 complete task (t.filter child p) formed =
     let h = and_parts (is_formed task child) (takes_filter child && is_open p) formed in
     level_more task (operators child) (t.filter child p) (inl (filter_listed child p _ h.1 (last_in task child (complete task child h.0))))
-complete task (t.join a b p) formed =
-    let h = three_parts (is_formed task a) (is_formed task b) (may_join task a b && is_open p) formed in
-    level_more task (operators a + operators b) (t.join a b p) (inr (inl (join_listed task a b p _ h.2 (pair_in task a b (complete task a h.0) (complete task b h.1)))))
-complete task (t.left a b p) formed =
-    let h = three_parts (is_formed task a) (is_formed task b) (may_meet task (a, b) && is_open p) formed in
-    level_more task (operators a + operators b) (t.left a b p) (inr (inr (inl (left_listed task a b p _ h.2 (pair_in task a b (complete task a h.0) (complete task b h.1))))))
+complete task (t.pair kind a b p) formed =
+    let h = three_parts (is_formed task a) (is_formed task b) (may_pair task kind (a, b) && is_open p) formed in
+    level_more task (operators a + operators b) (t.pair kind a b p)
+    (pair_in_next task kind (t.pair kind a b p) _ _ (pair_listed task kind a b p _ h.2 (pair_in task a b (complete task a h.0) (complete task b h.1))))
 complete task (t.group child keys agg) formed =
-    let h = and_parts (is_formed task child) (are_keys (length (columns task child)) keys && is_allowed task.aggregates (columns task child) keys agg) formed in
+    let h = and_parts (is_formed task child) (are_keys (length (columns task.inputs child)) keys && is_allowed task.aggregates (columns task.inputs child) keys agg) formed in
     level_more task (operators child) (t.group child keys agg) (inr (inr (inr (inl (group_listed task child keys agg _ h.1 (last_in task child (complete task child h.0)))))))
-complete task (t.union_all a b) formed =
-    let h = three_parts (is_formed task a) (is_formed task b) (may_unite task a b) formed in
-    level_more task (operators a + operators b) (t.union_all a b) (inr (inr (inr (inr (inl (union_all_listed task a b _ h.2 (pair_in task a b (complete task a h.0) (complete task b h.1))))))))
-complete task (t.union a b) formed =
-    let h = three_parts (is_formed task a) (is_formed task b) (may_unite task a b) formed in
-    level_more task (operators a + operators b) (t.union a b) (inr (inr (inr (inr (inr (union_listed task a b _ h.2 (pair_in task a b (complete task a h.0) (complete task b h.1))))))))
+complete task (t.unite kind a b) formed =
+    let h = three_parts (is_formed task a) (is_formed task b) (may_unite task (a, b)) formed in
+    level_more task (operators a + operators b) (t.unite kind a b)
+    (union_in_next task kind (t.unite kind a b) _ _ (union_listed task kind a b _ h.2 (pair_in task a b (complete task a h.0) (complete task b h.1))))
 
 -- a tree stands in a level exactly where it is formed and has so many operators
 stands_in : (task : TaskParts) (n : ℕ) (tree : Tree) → Stands task n tree → In tree (level task n)

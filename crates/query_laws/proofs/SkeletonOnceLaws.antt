@@ -1,5 +1,5 @@
 -- Each skeleton stands once in the list of skeletons.
-use Rattle.std.proofs.Common.{◌≡◌, refl, sym, ap, ◌∙◌, subst, subst₂, ℕ, zero, suc, ◌+◌, ◌-◌, ◌<◌, ◌≤◌, Bool, true, false, not, ◌&&◌, ◌==◌, ◌⊎◌, inl, inr, List, [], ◌∷◌, ◌++◌, map, length, arith}
+use Rattle.std.proofs.Common.{◌≡◌, refl, sym, ap, ◌∙◌, subst, subst₂, ℕ, zero, suc, ◌+◌, ◌-◌, ◌≤◌, Bool, true, false, not, ◌==◌, ◌⊎◌, inl, inr, List, [], ◌∷◌, ◌++◌, map, length, arith}
 use Rattle.std.specs.Prelude.{filter as list_filter, flat_map}
 use Rattle.std.specs.List.{range_with_len, list_any}
 use Rattle.value_core.specs.Value.{same_type}
@@ -16,10 +16,14 @@ use Rattle.query_core.specs.Tree as t
 use Rattle.query_core.specs.Meaning.{columns, type_at}
 use Rattle.query_core.specs.declared.agg.Agg.{Agg}
 use Rattle.query_core.specs.declared.agg.Agg.TheVariants.{CountAll, Count, CountDistinct, Sum, Min, Max}
-use Rattle.query_core.specs.Grammar.{takes_filter, may_meet, in_order, same_types, level_at, products, level_pairs, last_level, key_lists, free_columns, int_columns, allowed, agg_list, groups_of, next_level, bases, levels, skeletons}
+use Rattle.query_core.specs.declared.kinds.Pairing.{Pairing}
+use Rattle.query_core.specs.declared.kinds.Pairing.TheVariants.{Join, Left}
+use Rattle.query_core.specs.declared.kinds.Uniting.{Uniting}
+use Rattle.query_core.specs.declared.kinds.Uniting.TheVariants.{All, Firsts}
+use Rattle.query_core.specs.Grammar.{takes_filter, may_pair, may_unite, level_at, products, level_pairs, last_level, key_lists, free_columns, int_columns, allowed, agg_list, groups_of, next_level, bases, levels, skeletons}
 use Rattle.query_laws.specs.Skeleton.{operators}
-use Rattle.query_laws.proofs.LevelLaws.{in_products, levels_length}
-use Rattle.query_laws.proofs.MemberLaws.{in_one, in_flat_map, in_range}
+use Rattle.query_laws.proofs.LevelLaws.{levels_length, pair_with, in_products, pairs_from, in_pairs_of_levels}
+use Rattle.query_laws.proofs.MemberLaws.{in_one, in_flat_map}
 use Rattle.query_laws.proofs.JoinedLists.{once_one, once_filter, once_flat_map, once_range, Each, each_append, each_kept, IsOf, from_of, from_both, of_map}
 
 -- an aggregate's kind, in the order of the list
@@ -77,14 +81,14 @@ once_keys width =
 
 -- the groups over a tree with these keys
 abbrev groups_by : TaskParts → Tree → List ℕ → List Tree
-groups_by task child keys = map (t.group child keys) (agg_list task.aggregates (columns task child) keys)
+groups_by task child keys = map (t.group child keys) (agg_list task.aggregates (columns task.inputs child) keys)
 
 in_groups_by : (task : TaskParts) (child : Tree) (keys : List ℕ) (x : Tree) → In x (groups_by task child keys) → (agg : Agg) × (x ≡ t.group child keys agg)
-in_groups_by task child keys x i = let h = in_map (t.group child keys) x (agg_list task.aggregates (columns task child) keys) i in (h.0, h.2)
+in_groups_by task child keys x i = let h = in_map (t.group child keys) x (agg_list task.aggregates (columns task.inputs child) keys) i in (h.0, h.2)
 
 pub in_groups : (task : TaskParts) (child x : Tree) → In x (groups_of task child) → (keys : List ℕ) × (agg : Agg) × (x ≡ t.group child keys agg)
 in_groups task child x i =
-    let h = in_flat_map (groups_by task child) x (key_lists (length (columns task child))) i in
+    let h = in_flat_map (groups_by task child) x (key_lists (length (columns task.inputs child))) i in
     let g = in_groups_by task child h.0 x h.2 in
     (h.0, g.0, g.1)
 
@@ -99,7 +103,7 @@ keys_same task child keys others x a b =
 -- each group over a tree stands once
 once_groups : (task : TaskParts) (child : Tree) → Once (groups_of task child)
 once_groups task child =
-    once_flat_map (groups_by task child) (λ keys. once_map (t.group child keys) (λ a b e. cc) _ (once_aggs task.aggregates (columns task child) keys)) (keys_same task child) (key_lists (length (columns task child))) (once_keys (length (columns task child)))
+    once_flat_map (groups_by task child) (λ keys. once_map (t.group child keys) (λ a b e. cc) _ (once_aggs task.aggregates (columns task.inputs child) keys)) (keys_same task child) (key_lists (length (columns task.inputs child))) (once_keys (length (columns task.inputs child)))
 
 -- and its child
 child_same : (task : TaskParts) (child other x : Tree) → In x (groups_of task child) → In x (groups_of task other) → child ≡ other
@@ -116,31 +120,16 @@ each_group P task children each x i =
     let g = in_groups task h.0 x h.2 in
     subst P (sym g.2) (each g.0 g.1 h.0 h.1)
 
--- a tree with each of a list
-abbrev pairs_with : List Tree → Tree → List (Tree × Tree)
-pairs_with rights a = map (λ b. (a, b)) rights
-
-in_pairs_with : (rights : List Tree) (a : Tree) (p : Tree × Tree) → In p (pairs_with rights a) → (p.0 ≡ a) × In p.1 rights
-in_pairs_with rights a p i =
+in_pair_with : (rights : List Tree) (a : Tree) (p : Tree × Tree) → In p (pair_with rights a) → (p.0 ≡ a) × In p.1 rights
+in_pair_with rights a p i =
     let pair : Tree → Tree × Tree = λ b. (a, b) in
     let h = in_map pair p rights i in
     (ap (λ q. q.0) h.2, in_same p.1 h.0 rights (ap (λ q. q.1) h.2) h.1)
 
 once_products : (lefts rights : List Tree) → Once lefts → Once rights → Once (products lefts rights)
 once_products lefts rights left right =
-    once_flat_map (pairs_with rights) (λ a. once_map (λ b. (a, b)) (λ b c e. ap (λ q. q.1) e) rights right)
-    (λ a c p i j. sym (in_pairs_with rights a p i).0 ∙ (in_pairs_with rights c p j).0) lefts left
-
--- the pairs of the level of a number with the one that makes it up to the next level
-abbrev pairs_of : List (List Tree) → ℕ → List (Tree × Tree)
-pairs_of ls i = products (level_at ls i) (level_at ls (length ls - 1 - i))
-
-pub in_level_pairs : (ls : List (List Tree)) (p : Tree × Tree) → In p (level_pairs ls) → (i : ℕ) × (i < length ls) × In p.0 (level_at ls i) × In p.1 (level_at ls (length ls - 1 - i))
-in_level_pairs ls p i =
-    let h = in_flat_map (pairs_of ls) p (range_with_len 0 (length ls)) i in
-    let below = (in_range 0 (length ls) h.0 h.1).1 in
-    let g = in_products (level_at ls h.0) (level_at ls (length ls - 1 - h.0)) p h.2 in
-    (h.0, omega (arith, below), g.0, g.1)
+    once_flat_map (pair_with rights) (λ a. once_map (λ b. (a, b)) (λ b c e. ap (λ q. q.1) e) rights right)
+    (λ a c p i j. sym (in_pair_with rights a p i).0 ∙ (in_pair_with rights c p j).0) lefts left
 
 -- each tree of the level of a number has so many operators, and stands once there
 abbrev LevelsOnce : List (List Tree) → Type 0
@@ -148,7 +137,7 @@ LevelsOnce ls = (k : ℕ) → IsOf operators k (level_at ls k)
 
 once_level_pairs : (ls : List (List Tree)) → LevelsOnce ls → Once (level_pairs ls)
 once_level_pairs ls once =
-    once_flat_map (pairs_of ls) (λ i. once_products (level_at ls i) (level_at ls (length ls - 1 - i)) (once i).0 (once (length ls - 1 - i)).0)
+    once_flat_map (pairs_from ls) (λ i. once_products (level_at ls i) (level_at ls (length ls - 1 - i)) (once i).0 (once (length ls - 1 - i)).0)
     (λ i j p a b.
     let left = (in_products (level_at ls i) (level_at ls (length ls - 1 - i)) p a).0 in
     let right = (in_products (level_at ls j) (level_at ls (length ls - 1 - j)) p b).0 in
@@ -157,51 +146,42 @@ once_level_pairs ls once =
 
 -- the next level
 
--- whether a pair may be the parts of a join, and of a union
-abbrev joins_up : TaskParts → Tree × Tree → Bool
-joins_up task p = may_meet task p && in_order p
-
-abbrev unites : TaskParts → Tree × Tree → Bool
-unites task p = (may_meet task p && in_order p) && same_types task p
-
 -- what holds of each kind of tree of the next level holds of each tree of it
 pub next_each : (task : TaskParts) (ls : List (List Tree)) (P : Tree → Type 0)
     → Each (λ child. P (t.filter child Always)) (last_level ls)
-    → Each (λ p. P (t.join p.0 p.1 Always) × P (t.left p.0 p.1 Always) × P (t.union_all p.0 p.1) × P (t.union p.0 p.1)) (level_pairs ls)
+    → Each (λ p. ((kind : Pairing) → P (t.pair kind p.0 p.1 Always)) × ((kind : Uniting) → P (t.unite kind p.0 p.1))) (level_pairs ls)
     → ((keys : List ℕ) (agg : Agg) → Each (λ child. P (t.group child keys agg)) (last_level ls))
     → Each P (next_level task ls)
 next_each task ls P on_filter on_pair on_group =
     let last = last_level ls in
     let ps = level_pairs ls in
     let filters = each_kept P (λ child. t.filter child Always) takes_filter last on_filter in
-    let joins = each_kept P (λ p. t.join p.0 p.1 Always) (joins_up task) ps (λ p i. (on_pair p i).0) in
-    let lefts = each_kept P (λ p. t.left p.0 p.1 Always) (may_meet task) ps (λ p i. (on_pair p i).1) in
+    let pairs = λ (kind : Pairing). each_kept P (λ p. t.pair kind p.0 p.1 Always) (may_pair task kind) ps (λ p i. (on_pair p i).0 kind) in
     let groups = each_group P task last on_group in
-    let union_alls = each_kept P (λ p. t.union_all p.0 p.1) (unites task) ps (λ p i. (on_pair p i).2) in
-    let unions = each_kept P (λ p. t.union p.0 p.1) (unites task) ps (λ p i. (on_pair p i).3) in
-    each_append P _ _ filters (each_append P _ _ joins (each_append P _ _ lefts (each_append P _ _ groups (each_append P _ _ union_alls unions))))
+    let unions = λ (kind : Uniting). each_kept P (λ p. t.unite kind p.0 p.1) (may_unite task) ps (λ p i. (on_pair p i).1 kind) in
+    each_append P _ _ filters (each_append P _ _ (pairs Join) (each_append P _ _ (pairs Left) (each_append P _ _ groups (each_append P _ _ (unions All) (unions Firsts)))))
 
 -- a tree's kind, in the order of the next level
+abbrev pair_place : Pairing → ℕ
+pair_place Join = 1
+pair_place Left = 2
+
+abbrev union_place : Uniting → ℕ
+union_place All = 4
+union_place Firsts = 5
+
 abbrev tree_kind : Tree → ℕ
 tree_kind (t.filter child p) = 0
-tree_kind (t.join a b p) = 1
-tree_kind (t.left a b p) = 2
+tree_kind (t.pair kind a b p) = pair_place kind
 tree_kind (t.group child keys agg) = 3
-tree_kind (t.union_all a b) = 4
-tree_kind (t.union a b) = 5
+tree_kind (t.unite kind a b) = union_place kind
 tree_kind (t.base table) = 6
 
-join_same : (p q : Tree × Tree) → t.join p.0 p.1 Always ≡ t.join q.0 q.1 Always → p ≡ q
-join_same (a, b) (c, d) e = let x : a ≡ c = cc in let y : b ≡ d = cc in cc
+pair_same : (kind : Pairing) (p q : Tree × Tree) → t.pair kind p.0 p.1 Always ≡ t.pair kind q.0 q.1 Always → p ≡ q
+pair_same kind (a, b) (c, d) e = let x : a ≡ c = cc in let y : b ≡ d = cc in cc
 
-left_same : (p q : Tree × Tree) → t.left p.0 p.1 Always ≡ t.left q.0 q.1 Always → p ≡ q
-left_same (a, b) (c, d) e = let x : a ≡ c = cc in let y : b ≡ d = cc in cc
-
-union_all_same : (p q : Tree × Tree) → t.union_all p.0 p.1 ≡ t.union_all q.0 q.1 → p ≡ q
-union_all_same (a, b) (c, d) e = let x : a ≡ c = cc in let y : b ≡ d = cc in cc
-
-union_same : (p q : Tree × Tree) → t.union p.0 p.1 ≡ t.union q.0 q.1 → p ≡ q
-union_same (a, b) (c, d) e = let x : a ≡ c = cc in let y : b ≡ d = cc in cc
+union_same : (kind : Uniting) (p q : Tree × Tree) → t.unite kind p.0 p.1 ≡ t.unite kind q.0 q.1 → p ≡ q
+union_same kind (a, b) (c, d) e = let x : a ≡ c = cc in let y : b ≡ d = cc in cc
 
 -- the trees of one kind over those of a list that pass a test
 of_kept : {X : Type 0} (n : ℕ) (f : X → Tree) → ((a b : X) → f a ≡ f b → a ≡ b) → ((x : X) → tree_kind (f x) ≡ n) → (test : X → Bool) (xs : List X) → Once xs → IsOf tree_kind n (map f (list_filter test xs))
@@ -221,19 +201,17 @@ once_next task ls once =
     let ps = level_pairs ls in
     let of_pairs = once_level_pairs ls once in
     let filters = of_kept 0 (λ child. t.filter child Always) (λ a b e. cc) (λ c. refl) takes_filter last of_last in
-    let joins = of_kept 1 (λ p. t.join p.0 p.1 Always) join_same (λ p. refl) (joins_up task) ps of_pairs in
-    let lefts = of_kept 2 (λ p. t.left p.0 p.1 Always) left_same (λ p. refl) (may_meet task) ps of_pairs in
+    let pairs = λ (kind : Pairing). of_kept (pair_place kind) (λ p. t.pair kind p.0 p.1 Always) (pair_same kind) (λ p. refl) (may_pair task kind) ps of_pairs in
     let groups = of_groups task last of_last in
-    let union_alls = of_kept 4 (λ p. t.union_all p.0 p.1) union_all_same (λ p. refl) (unites task) ps of_pairs in
-    let unions = from_of tree_kind 5 _ (of_kept 5 (λ p. t.union p.0 p.1) union_same (λ p. refl) (unites task) ps of_pairs) in
-    (from_both tree_kind 0 _ _ filters (from_both tree_kind 1 _ _ joins (from_both tree_kind 2 _ _ lefts (from_both tree_kind 3 _ _ groups (from_both tree_kind 4 _ _ union_alls unions))))).0
+    let unions = λ (kind : Uniting). of_kept (union_place kind) (λ p. t.unite kind p.0 p.1) (union_same kind) (λ p. refl) (may_unite task) ps of_pairs in
+    (from_both tree_kind 0 _ _ filters (from_both tree_kind 1 _ _ (pairs Join) (from_both tree_kind 2 _ _ (pairs Left) (from_both tree_kind 3 _ _ groups (from_both tree_kind 4 _ _ (unions All) (from_of tree_kind 5 _ (unions Firsts))))))).0
 
 -- each tree of the next level has an operator more
 next_operators : (task : TaskParts) (ls : List (List Tree)) → 1 ≤ length ls → LevelsOnce ls → Each (λ x. operators x ≡ length ls) (next_level task ls)
 next_operators task ls some once =
     next_each task ls (λ x. operators x ≡ length ls)
     (λ child i. over child i)
-    (λ p i. let sum = of_pair p i in (sum, sum, sum, sum))
+    (λ p i. let sum = of_pair p i in (λ kind. sum, λ kind. sum))
     (λ keys agg child i. over child i)
   where
     over : (child : Tree) → In child (last_level ls) → operators child + 1 ≡ length ls
@@ -241,7 +219,7 @@ next_operators task ls some once =
 
     of_pair : (p : Tree × Tree) → In p (level_pairs ls) → (operators p.0 + operators p.1) + 1 ≡ length ls
     of_pair p i =
-        let h = in_level_pairs ls p i in
+        let h = in_pairs_of_levels ls p i in
         omega (arith, h.1, (once h.0).1 p.0 h.2, (once (length ls - 1 - h.0)).1 p.1 h.3)
 
 -- the level of a number, where there is one level more

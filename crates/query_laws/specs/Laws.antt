@@ -1,5 +1,5 @@
 -- Laws of the definitions of queries: of skeletons, of keys, and of the rows of groups.
-use Rattle.std.specs.Prelude.{◌≡◌, ℕ, ◌<◌, ◌≤◌, Bool, false, ◌&&◌, ◌==◌, List, [], ◌∷◌, ◌++◌, map, length, slice_get, Some, IsTrue, Contains, ◌↔◌}
+use Rattle.std.specs.Prelude.{◌≡◌, ℕ, ◌<◌, ◌≤◌, Bool, false, ◌&&◌, ◌==◌, List, [], ◌∷◌, ◌++◌, map, length, slice_get, Some, IsTrue, Contains, ◌↔◌, IsPermutation}
 use Rattle.std.specs.Prelude.{filter as list_filter}
 use Rattle.std.specs.declared.cmp.Ordering.{Ordering}
 use Rattle.std.specs.declared.cmp.Ordering.TheVariants.{Equal}
@@ -13,7 +13,7 @@ use Rattle.query_core.specs.Firsts.{projected, firsts}
 use Rattle.query_core.specs.Groups.{aggregate, group_keys, members, grouped}
 use Rattle.query_core.specs.Grammar.{Numbered, level_at, levels, skeletons, queries}
 use Rattle.query_core.specs.Rank.{Key, key, before}
-use Rattle.query_core.specs.Answers.{RankedQuery}
+use Rattle.query_core.specs.Answers.{RankedQuery, ascending}
 use Rattle.query_core.specs.declared.agg.Agg.{Agg}
 use Rattle.query_laws.specs.Parts.{IsPart}
 use Rattle.query_laws.specs.Skeleton.{operators, is_formed, is_skeleton}
@@ -44,19 +44,30 @@ KeysApart task =
 abbrev pub TiesAreEqual : (Key → Key → Ordering) → Type 0
 TiesAreEqual compared = (a b : Key) → compared a b ≡ Equal → a ≡ b
 
+-- the list in ascending order is the list in another order: it has each element as often
+abbrev pub AscendingPermutes : {X : Type 0} → (X → X → Bool) → List X → Type 0
+AscendingPermutes first xs = IsPermutation xs (ascending first xs)
+
 -- each element of a list comes strictly before each later one
 abbrev pub Ascends : List RankedQuery → Type 0
 Ascends xs =
     (i j : ℕ) (a b : RankedQuery) → i < j → slice_get xs i ≡ Some a → slice_get xs j ≡ Some b
     → IsTrue (before a.key b.key)
 
--- first copies: each once, those of the rows, in their order; and rows without doubles are their own first copies
+-- what a row behind others adds to their first copies: nothing where it stands among them, itself at the end where it doesn't
+abbrev pub AddsFirstCopy : List Row → Row → Type 0
+AddsFirstCopy rows row =
+    (Contains rows row → firsts (rows ++ row ∷ []) ≡ firsts rows)
+    × ((Contains rows row → ⊥) → firsts (rows ++ row ∷ []) ≡ firsts rows ++ row ∷ [])
+
+-- first copies: each once, those of the rows, in their order; rows without doubles are their own first copies; and the first of equal rows is kept
 abbrev pub AreFirstCopies : List Row → Type 0
 AreFirstCopies rows =
     EachOnce (firsts rows)
     × ((row : Row) → Contains rows row ↔ Contains (firsts rows) row)
     × IsPart (firsts rows) rows
     × (has_double rows ≡ false → firsts rows ≡ rows)
+    × ((row : Row) → AddsFirstCopy rows row)
 
 -- each group's key stands once; each row is a member of its own key's group, and of no other
 abbrev pub GroupsByKey : List ℕ → List Row → Type 0

@@ -12,7 +12,7 @@ use Rattle.table_core.specs.declared.task.TaskParts.{TaskParts}
 use Rattle.query_core.specs.Tree.{Tree}
 use Rattle.query_core.specs.Tree as t
 use Rattle.query_core.specs.Meaning.{columns, type_at}
-use Rattle.query_core.specs.Grammar.{takes_filter, may_meet, in_order, same_types}
+use Rattle.query_core.specs.Grammar.{takes_filter, may_pair, may_unite}
 use Rattle.query_core.specs.declared.agg.Agg.{Agg}
 use Rattle.query_core.specs.declared.agg.Agg.TheVariants.{CountAll, Count, CountDistinct, Sum, Min, Max}
 
@@ -20,11 +20,9 @@ use Rattle.query_core.specs.declared.agg.Agg.TheVariants.{CountAll, Count, Count
 abbrev pub operators : Tree → ℕ
 operators (t.base table) = 0
 operators (t.filter child p) = operators child + 1
-operators (t.join a b p) = (operators a + operators b) + 1
-operators (t.left a b p) = (operators a + operators b) + 1
+operators (t.pair kind a b p) = (operators a + operators b) + 1
 operators (t.group child keys agg) = operators child + 1
-operators (t.union_all a b) = (operators a + operators b) + 1
-operators (t.union a b) = (operators a + operators b) + 1
+operators (t.unite kind a b) = (operators a + operators b) + 1
 
 -- whether a predicate is still open
 abbrev pub is_open : Pred → Bool
@@ -50,23 +48,14 @@ is_allowed set types keys (Sum column) = set.sum && (is_free (length types) keys
 is_allowed set types keys (Min column) = set.min && is_free (length types) keys column
 is_allowed set types keys (Max column) = set.max && is_free (length types) keys column
 
--- whether two parts may be those of a join: together they have no more leaves than the task allows, and they stand in order
-abbrev pub may_join : TaskParts → Tree → Tree → Bool
-may_join task a b = may_meet task (a, b) && in_order (a, b)
-
--- whether two parts may be those of a union: those of a join, with the same column types
-abbrev pub may_unite : TaskParts → Tree → Tree → Bool
-may_unite task a b = may_join task a b && same_types task (a, b)
-
 -- whether each node of a tree is one that the grammar has, with its predicate still open
 abbrev pub is_formed : TaskParts → Tree → Bool
 is_formed task (t.base table) = nat_lt table (length task.inputs)
 is_formed task (t.filter child p) = is_formed task child && (takes_filter child && is_open p)
-is_formed task (t.join a b p) = (is_formed task a && is_formed task b) && (may_join task a b && is_open p)
-is_formed task (t.left a b p) = (is_formed task a && is_formed task b) && (may_meet task (a, b) && is_open p)
-is_formed task (t.group child keys agg) = is_formed task child && (are_keys (length (columns task child)) keys && is_allowed task.aggregates (columns task child) keys agg)
-is_formed task (t.union_all a b) = (is_formed task a && is_formed task b) && may_unite task a b
-is_formed task (t.union a b) = (is_formed task a && is_formed task b) && may_unite task a b
+is_formed task (t.pair kind a b p) = (is_formed task a && is_formed task b) && (may_pair task kind (a, b) && is_open p)
+is_formed task (t.group child keys agg) =
+    is_formed task child && (are_keys (length (columns task.inputs child)) keys && is_allowed task.aggregates (columns task.inputs child) keys agg)
+is_formed task (t.unite kind a b) = (is_formed task a && is_formed task b) && may_unite task (a, b)
 
 -- whether a tree is a skeleton of a task: the grammar has it, and it has no more operators than the task allows
 abbrev pub is_skeleton : TaskParts → Tree → Bool

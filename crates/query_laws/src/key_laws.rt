@@ -1,8 +1,9 @@
+ghost use Rattle.std.specs.Prelude.{Bool, List};
 ghost use Rattle.std.specs.Cmp.{IsTotalOrder};
 ghost use Rattle.predicate_core.specs.Laws.{EachOnce};
 ghost use Rattle.query_core.specs.Rank.{key_order};
 ghost use Rattle.query_core.specs.Answers.{answers};
-ghost use Rattle.query_laws.specs.Laws.{plain_queries, KeysApart, TiesAreEqual, Ascends};
+ghost use Rattle.query_laws.specs.Laws.{plain_queries, KeysApart, TiesAreEqual, Ascends, AscendingPermutes};
 
 use table_core::TaskParts;
 
@@ -23,6 +24,12 @@ pub fn keys_are_apart(task: &TaskParts)
 pub fn key_order_is_total()
     ensures total { IsTotalOrder key_order }
     ensures ties { TiesAreEqual key_order }
+{}
+
+/// The law of the ascending order: a list in it has the same elements, each as often.
+#[tactic(auto, using(query_core::proofs::AscendingLaws::ascending_permutes))]
+pub fn ascending_keeps_elements<T>()
+    ensures { (first : T → T → Bool) (xs : List T) → AscendingPermutes first xs }
 {}
 
 /// The law of the answers: each comes strictly before each later one.

@@ -5,9 +5,13 @@ mod key_laws;
 mod row_laws;
 mod skeleton_laws;
 
-pub use key_laws::{answers_ascend, key_order_is_total, keys_are_apart, queries_are_once};
+pub use key_laws::{
+    answers_ascend, ascending_keeps_elements, key_order_is_total, keys_are_apart, queries_are_once,
+};
 pub use row_laws::{
     firsts_are_first_copies, groups_are_by_key, groups_are_by_members, groups_have_members,
     groups_of_a_part, members_of_the_kept,
 };
-pub use skeleton_laws::{levels_are_by_operators, skeletons_are_listed, skeletons_are_once};
+pub use skeleton_laws::{
+    levels_are_by_operators, no_aggregate_is_listed, skeletons_are_listed, skeletons_are_once,
+};

@@ -3,7 +3,7 @@ ghost use Rattle.table_core.specs.Rows.{Row};
 ghost use Rattle.query_core.specs.declared.agg.Agg.{Agg};
 ghost use Rattle.query_laws.specs.Laws.{AreFirstCopies, GroupsByKey, GroupsHaveMembers, GroupsByMembers, MembersOfKept, GroupsOfPart};
 
-/// The law of first copies: each row once, in the rows' order.
+/// The law of first copies: each row once, at its first place, in the rows' order.
 #[tactic(auto, using(crate::proofs::RowLaws::first_copies))]
 pub fn firsts_are_first_copies()
     ensures { (rows : List Row) → AreFirstCopies rows }

@@ -1,8 +1,10 @@
+ghost use Rattle.std.specs.Prelude.{◌≡◌, ℕ, List, []};
+ghost use Rattle.value_core.specs.declared.value.ColType.{ColType};
 ghost use Rattle.predicate_core.specs.Laws.{EachOnce};
-ghost use Rattle.query_core.specs.Grammar.{skeletons};
+ghost use Rattle.query_core.specs.Grammar.{agg_list, skeletons};
 ghost use Rattle.query_laws.specs.Laws.{ListsSkeletons, LevelsByOperators};
 
-use table_core::TaskParts;
+use table_core::{AggSet, TaskParts};
 
 /// The law of the list of skeletons: a tree stands in it exactly where it is a skeleton of the task.
 #[tactic(auto, using(crate::proofs::SkeletonLaws::lists_skeletons))]
@@ -20,4 +22,9 @@ pub fn levels_are_by_operators(task: &TaskParts)
 #[tactic(auto, using(crate::proofs::SkeletonOnceLaws::skeletons_once))]
 pub fn skeletons_are_once(task: &TaskParts)
     ensures { EachOnce (skeletons task.now) }
+{}
+
+/// The law of a task that allows no aggregate: none is listed.
+pub fn no_aggregate_is_listed()
+    ensures { (types : List ColType) (keys : List ℕ) → agg_list AggSet.NONE types keys ≡ [] }
 {}
