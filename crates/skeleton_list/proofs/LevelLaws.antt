@@ -1,7 +1,8 @@
 -- The levels of skeletons with their leaves and types are the levels of the grammar.
-use Rattle.std.proofs.Common.{◌≡◌, ℕ, zero, suc, ◌+◌, ◌-◌, ◌<◌, ◌≤◌, Bool, not, ◌&&◌, List, [], ◌∷◌, ◌++◌, map, length, Option, Some, None, option_map, refl, sym, ap, ◌∙◌, arith, append_assoc, length-append}
+use Rattle.std.proofs.Common.{◌≡◌, ℕ, zero, suc, ◌+◌, ◌-◌, ◌<◌, ◌≤◌, Bool, List, [], ◌∷◌, ◌++◌, map, length, Option, Some, None, option_map, Result, Ok, Err, refl, sym, ap, ap₂, ◌∙◌, arith, append_assoc, length-append}
 use Rattle.std.specs.Prelude.{filter as list_filter, slice_get, unwrap_or}
 use Rattle.std.specs.List.{flat_map, range_with_len}
+use Rattle.std.proofs.lemmas.Bool.{false≢true}
 use Rattle.std.proofs.lemmas.List.{length-map, map-append, append-nil}
 use Rattle.std.proofs.lemmas.Grind.{flat_map-append}
 use Rattle.skeleton_list.proofs.RangeLaws.{range_next}
@@ -11,11 +12,17 @@ use Rattle.table_core.specs.declared.task.TaskParts.{TaskParts}
 use Rattle.query_core.specs.Tree.{Tree}
 use Rattle.query_core.specs.Tree as t
 use Rattle.query_core.specs.Meaning.{columns}
-use Rattle.query_core.specs.Grammar.{takes_filter, may_meet, in_order, same_types, level_at, products, level_pairs, last_level, filters_over, joins_of, lefts_of, union_alls_of, unions_of, key_lists, agg_list, groups_of, next_level, levels, skeletons}
+use Rattle.query_core.specs.Grammar.{takes_filter, may_pair, may_unite, level_at, products, level_pairs, last_level, filters_over, pairs_of, unions_of, key_lists, agg_list, groups_of, next_level, levels, skeletons}
 use Rattle.query_core.proofs.MapLaws.{single, flat_map_twice, flat_map_same, flat_map_of_map, flat_map_singles, map_twice, kept_joined}
-use Rattle.skeleton_list.specs.declared.pairing.Pairing.{Pairing}
-use Rattle.skeleton_list.specs.declared.pairing.Pairing.TheVariants.{Join, Left, UnionAll, Union}
-use Rattle.skeleton_list.specs.Listed.{Listed, listed, listed_levels, all_of, filter_on, may_pair, paired_tree, pair_on, pairs_between, listed_at, pairs_at, pairs_on, group_on, keyed_on, groups_on, last_listed, first_kinds, last_kinds, next_listed}
+use Rattle.query_core.specs.declared.kinds.Pairing.{Pairing}
+use Rattle.query_core.specs.declared.kinds.Pairing.TheVariants.{Join, Left}
+use Rattle.query_core.specs.declared.kinds.Uniting.{Uniting}
+use Rattle.query_core.specs.declared.kinds.Uniting.TheVariants.{All, Firsts}
+use Rattle.skeleton_list.specs.declared.fault.ListFault.{ListFault}
+use Rattle.skeleton_list.specs.declared.fault.ListFault.TheVariants.{TooMany, OutOfMemory}
+use Rattle.skeleton_list.specs.declared.meeting.Meeting.{Meeting}
+use Rattle.skeleton_list.specs.declared.meeting.Meeting.TheVariants.{Pair, Union}
+use Rattle.skeleton_list.specs.Listed.{Listed, UnlessTooMany, listed, listed_levels, all_of, filter_on, met_tree, pair_on, pairs_between, listed_at, pairs_at, pairs_on, group_on, keyed_on, groups_on, last_listed, first_kinds, last_kinds, next_listed}
 
 level_of : (task : TaskParts) (o : Option (List Tree)) → unwrap_or (option_map (map (listed task)) o) [] ≡ map (listed task) (unwrap_or o [])
 level_of task None = refl
@@ -37,63 +44,54 @@ filters_are task last =
     ∙ sym (map_twice (listed task) (λ child. t.filter child Always) (list_filter takes_filter last))
 
 -- the tests of pairs of trees
-abbrev test_of : TaskParts → Pairing → Tree × Tree → Bool
-test_of task Join p = may_meet task p && in_order p
-test_of task Left p = may_meet task p
-test_of task UnionAll p = (may_meet task p && in_order p) && same_types task p
-test_of task Union p = (may_meet task p && in_order p) && same_types task p
+abbrev test_of : TaskParts → Meeting → Tree × Tree → Bool
+test_of task (Pair kind) p = may_pair task kind p
+test_of task (Union kind) p = may_unite task p
 
 -- the tree of a pair, with its leaves and types
-abbrev made_of : TaskParts → Pairing → Tree × Tree → Listed
-made_of task kind p = listed task (paired_tree kind p.0 p.1)
+abbrev made_of : TaskParts → Meeting → Tree × Tree → Listed
+made_of task how p = listed task (met_tree how p.0 p.1)
 
-pair_is : (task : TaskParts) (kind : Pairing) (a b : Tree) → pair_on task kind (listed task a) (listed task b) ≡ single (test_of task kind (a, b)) (made_of task kind (a, b))
-pair_is task Join a b = refl
-pair_is task Left a b = refl
-pair_is task UnionAll a b = refl
-pair_is task Union a b = refl
+pair_is : (task : TaskParts) (how : Meeting) (a b : Tree) → pair_on task how (listed task a) (listed task b) ≡ single (test_of task how (a, b)) (made_of task how (a, b))
+pair_is task (Pair Join) a b = refl
+pair_is task (Pair Left) a b = refl
+pair_is task (Union kind) a b = refl
 
-with_is : (task : TaskParts) (kind : Pairing) (a : Tree) (rights : List Tree)
-    → flat_map (pair_on task kind (listed task a)) (map (listed task) rights) ≡ map (made_of task kind) (list_filter (test_of task kind) (map (λ b. (a, b)) rights))
-with_is task kind a rights =
+with_is : (task : TaskParts) (how : Meeting) (a : Tree) (rights : List Tree)
+    → flat_map (pair_on task how (listed task a)) (map (listed task) rights) ≡ map (made_of task how) (list_filter (test_of task how) (map (λ b. (a, b)) rights))
+with_is task how a rights =
     let pair : Tree → Tree × Tree = λ b. (a, b) in
-    flat_map_of_map (pair_on task kind (listed task a)) (listed task) rights
-    ∙ flat_map_same (λ b. pair_on task kind (listed task a) (listed task b)) (λ b. single (test_of task kind (pair b)) (made_of task kind (pair b))) rights (λ b. pair_is task kind a b)
-    ∙ sym (flat_map_of_map (λ p. single (test_of task kind p) (made_of task kind p)) pair rights)
-    ∙ flat_map_singles (made_of task kind) (test_of task kind) (map pair rights)
+    flat_map_of_map (pair_on task how (listed task a)) (listed task) rights
+    ∙ flat_map_same (λ b. pair_on task how (listed task a) (listed task b)) (λ b. single (test_of task how (pair b)) (made_of task how (pair b))) rights (λ b. pair_is task how a b)
+    ∙ sym (flat_map_of_map (λ p. single (test_of task how p) (made_of task how p)) pair rights)
+    ∙ flat_map_singles (made_of task how) (test_of task how) (map pair rights)
 
-between_is : (task : TaskParts) (kind : Pairing) (lefts rights : List Tree)
-    → pairs_between task kind (map (listed task) lefts) (map (listed task) rights) ≡ map (made_of task kind) (list_filter (test_of task kind) (products lefts rights))
-between_is task kind lefts rights =
-    flat_map_of_map (λ a. flat_map (pair_on task kind a) (map (listed task) rights)) (listed task) lefts
-    ∙ flat_map_same _ (λ a. map (made_of task kind) (list_filter (test_of task kind) (map (λ b. (a, b)) rights))) lefts (λ a. with_is task kind a rights)
-    ∙ sym (kept_joined (made_of task kind) (test_of task kind) (λ a. map (λ b. (a, b)) rights) lefts)
+between_is : (task : TaskParts) (how : Meeting) (lefts rights : List Tree)
+    → pairs_between task how (map (listed task) lefts) (map (listed task) rights) ≡ map (made_of task how) (list_filter (test_of task how) (products lefts rights))
+between_is task how lefts rights =
+    flat_map_of_map (λ a. flat_map (pair_on task how a) (map (listed task) rights)) (listed task) lefts
+    ∙ flat_map_same _ (λ a. map (made_of task how) (list_filter (test_of task how) (map (λ b. (a, b)) rights))) lefts (λ a. with_is task how a rights)
+    ∙ sym (kept_joined (made_of task how) (test_of task how) (λ a. map (λ b. (a, b)) rights) lefts)
 
-at_is : (task : TaskParts) (kind : Pairing) (ls : List (List Tree)) (i : ℕ)
-    → pairs_at task kind (listed_levels task ls) i ≡ map (made_of task kind) (list_filter (test_of task kind) (products (level_at ls i) (level_at ls (length ls - 1 - i))))
-at_is task kind ls i =
-    ap (λ n. pairs_between task kind (listed_at (listed_levels task ls) i) (listed_at (listed_levels task ls) (n - 1 - i))) (size_is task ls)
-    ∙ ap (λ lefts. pairs_between task kind lefts (listed_at (listed_levels task ls) (length ls - 1 - i))) (level_is task ls i)
-    ∙ ap (λ rights. pairs_between task kind (map (listed task) (level_at ls i)) rights) (level_is task ls (length ls - 1 - i))
-    ∙ between_is task kind (level_at ls i) (level_at ls (length ls - 1 - i))
+at_is : (task : TaskParts) (how : Meeting) (ls : List (List Tree)) (i : ℕ)
+    → pairs_at task how (listed_levels task ls) i ≡ map (made_of task how) (list_filter (test_of task how) (products (level_at ls i) (level_at ls (length ls - 1 - i))))
+at_is task how ls i =
+    ap (λ n. pairs_between task how (listed_at (listed_levels task ls) i) (listed_at (listed_levels task ls) (n - 1 - i))) (size_is task ls)
+    ∙ ap (λ lefts. pairs_between task how lefts (listed_at (listed_levels task ls) (length ls - 1 - i))) (level_is task ls i)
+    ∙ ap (λ rights. pairs_between task how (map (listed task) (level_at ls i)) rights) (level_is task ls (length ls - 1 - i))
+    ∙ between_is task how (level_at ls i) (level_at ls (length ls - 1 - i))
 
-pairs_are : (task : TaskParts) (kind : Pairing) (ls : List (List Tree)) → pairs_on task kind (listed_levels task ls) ≡ map (made_of task kind) (list_filter (test_of task kind) (level_pairs ls))
-pairs_are task kind ls =
-    ap (λ n. flat_map (pairs_at task kind (listed_levels task ls)) (range_with_len 0 n)) (size_is task ls)
-    ∙ flat_map_same (pairs_at task kind (listed_levels task ls)) _ (range_with_len 0 (length ls)) (at_is task kind ls)
-    ∙ sym (kept_joined (made_of task kind) (test_of task kind) (λ i. products (level_at ls i) (level_at ls (length ls - 1 - i))) (range_with_len 0 (length ls)))
+pairs_are : (task : TaskParts) (how : Meeting) (ls : List (List Tree)) → pairs_on task how (listed_levels task ls) ≡ map (made_of task how) (list_filter (test_of task how) (level_pairs ls))
+pairs_are task how ls =
+    ap (λ n. flat_map (pairs_at task how (listed_levels task ls)) (range_with_len 0 n)) (size_is task ls)
+    ∙ flat_map_same (pairs_at task how (listed_levels task ls)) _ (range_with_len 0 (length ls)) (at_is task how ls)
+    ∙ sym (kept_joined (made_of task how) (test_of task how) (λ i. products (level_at ls i) (level_at ls (length ls - 1 - i))) (range_with_len 0 (length ls)))
 
-joins_are : (task : TaskParts) (ls : List (List Tree)) → pairs_on task Join (listed_levels task ls) ≡ map (listed task) (joins_of task (level_pairs ls))
-joins_are task ls = pairs_are task Join ls ∙ sym (map_twice (listed task) (λ p. t.join p.0 p.1 Always) _)
+of_pairs : (task : TaskParts) (kind : Pairing) (ls : List (List Tree)) → pairs_on task (Pair kind) (listed_levels task ls) ≡ map (listed task) (pairs_of task kind (level_pairs ls))
+of_pairs task kind ls = pairs_are task (Pair kind) ls ∙ sym (map_twice (listed task) (λ p. t.pair kind p.0 p.1 Always) _)
 
-lefts_are : (task : TaskParts) (ls : List (List Tree)) → pairs_on task Left (listed_levels task ls) ≡ map (listed task) (lefts_of task (level_pairs ls))
-lefts_are task ls = pairs_are task Left ls ∙ sym (map_twice (listed task) (λ p. t.left p.0 p.1 Always) _)
-
-union_alls_are : (task : TaskParts) (ls : List (List Tree)) → pairs_on task UnionAll (listed_levels task ls) ≡ map (listed task) (union_alls_of task (level_pairs ls))
-union_alls_are task ls = pairs_are task UnionAll ls ∙ sym (map_twice (listed task) (λ p. t.union_all p.0 p.1) _)
-
-unions_are : (task : TaskParts) (ls : List (List Tree)) → pairs_on task Union (listed_levels task ls) ≡ map (listed task) (unions_of task (level_pairs ls))
-unions_are task ls = pairs_are task Union ls ∙ sym (map_twice (listed task) (λ p. t.union p.0 p.1) _)
+of_unions : (task : TaskParts) (kind : Uniting) (ls : List (List Tree)) → pairs_on task (Union kind) (listed_levels task ls) ≡ map (listed task) (unions_of task kind (level_pairs ls))
+of_unions task kind ls = pairs_are task (Union kind) ls ∙ sym (map_twice (listed task) (λ p. t.unite kind p.0 p.1) _)
 
 map_joined : {A B C : Type 0} (f : B → C) (g : A → List B) (xs : List A) → map f (flat_map g xs) ≡ flat_map (λ x. map f (g x)) xs
 map_joined f g [] = refl
@@ -101,9 +99,9 @@ map_joined f g (x ∷ xs) = map-append f (g x) (flat_map g xs) ∙ ap (λ t. map
 
 groups_over : (task : TaskParts) (x : Tree) → groups_on task (listed task x) ≡ map (listed task) (groups_of task x)
 groups_over task x =
-    flat_map_same (keyed_on task (listed task x)) (λ keys. map (listed task) (map (t.group x keys) (agg_list task.aggregates (columns task x) keys))) (key_lists (length (columns task x)))
-    (λ keys. sym (map_twice (listed task) (t.group x keys) (agg_list task.aggregates (columns task x) keys)))
-    ∙ sym (map_joined (listed task) (λ keys. map (t.group x keys) (agg_list task.aggregates (columns task x) keys)) (key_lists (length (columns task x))))
+    flat_map_same (keyed_on task (listed task x)) (λ keys. map (listed task) (map (t.group x keys) (agg_list task.aggregates (columns task.inputs x) keys))) (key_lists (length (columns task.inputs x)))
+    (λ keys. sym (map_twice (listed task) (t.group x keys) (agg_list task.aggregates (columns task.inputs x) keys)))
+    ∙ sym (map_joined (listed task) (λ keys. map (t.group x keys) (agg_list task.aggregates (columns task.inputs x) keys)) (key_lists (length (columns task.inputs x))))
 
 groups_are : (task : TaskParts) (last : List Tree) → flat_map (groups_on task) (map (listed task) last) ≡ map (listed task) (flat_map (groups_of task) last)
 groups_are task last =
@@ -118,17 +116,16 @@ six f a b c d e g = sym (simp (map-append, append_assoc) refl)
 pub next_is : (task : TaskParts) (ls : List (List Tree)) → next_listed task (listed_levels task ls) ≡ map (listed task) (next_level task ls)
 next_is task ls =
     let last = last_level ls in
+    let ps = level_pairs ls in
     let filters = ap (flat_map filter_on) (last_is task ls) ∙ filters_are task last in
     let groups = ap (flat_map (groups_on task)) (last_is task ls) ∙ groups_are task last in
-    let first = ap (λ x. x ++ (pairs_on task Join (listed_levels task ls) ++ pairs_on task Left (listed_levels task ls))) filters
-    ∙ ap (λ x. map (listed task) (filters_over last) ++ (x ++ pairs_on task Left (listed_levels task ls))) (joins_are task ls)
-    ∙ ap (λ x. map (listed task) (filters_over last) ++ (map (listed task) (joins_of task (level_pairs ls)) ++ x)) (lefts_are task ls) in
-    let second = ap (λ x. x ++ (pairs_on task UnionAll (listed_levels task ls) ++ pairs_on task Union (listed_levels task ls))) groups
-    ∙ ap (λ x. map (listed task) (flat_map (groups_of task) last) ++ (x ++ pairs_on task Union (listed_levels task ls))) (union_alls_are task ls)
-    ∙ ap (λ x. map (listed task) (flat_map (groups_of task) last) ++ (map (listed task) (union_alls_of task (level_pairs ls)) ++ x)) (unions_are task ls) in
-    ap (λ x. x ++ last_kinds task (listed_levels task ls)) first
-    ∙ ap (λ x. (map (listed task) (filters_over last) ++ (map (listed task) (joins_of task (level_pairs ls)) ++ map (listed task) (lefts_of task (level_pairs ls)))) ++ x) second
-    ∙ six (listed task) (filters_over last) (joins_of task (level_pairs ls)) (lefts_of task (level_pairs ls)) (flat_map (groups_of task) last) (union_alls_of task (level_pairs ls)) (unions_of task (level_pairs ls))
+    let first = both filters (both (of_pairs task Join ls) (of_pairs task Left ls)) in
+    let second = both groups (both (of_unions task All ls) (of_unions task Firsts ls)) in
+    both first second
+    ∙ six (listed task) (filters_over last) (pairs_of task Join ps) (pairs_of task Left ps) (flat_map (groups_of task) last) (unions_of task All ps) (unions_of task Firsts ps)
+  where
+    both : {a b c d : List Listed} → a ≡ b → c ≡ d → a ++ c ≡ b ++ d
+    both e f = ap₂ (λ x y. x ++ y) e f
 
 -- the levels of a task, with their leaves and types
 pub level_next : (task : TaskParts) (n : ℕ) (below : List (List Listed)) (next : List Listed) → below ≡ listed_levels task (levels task n) → next ≡ next_listed task below
@@ -192,10 +189,16 @@ level_before task ops limit some many =
     rw e (omega (arith, size, many))
 
 -- the nodes of all levels, with their number
-pub nodes_are : (task : TaskParts) (below : List (List Listed)) (trees : List Tree) (room limit n : ℕ)
-    → below ≡ listed_levels task (levels task task.ops) → room + length (all_of (levels task task.ops)) ≡ limit
+pub nodes_are : (task parts : TaskParts) (below : List (List Listed)) (trees : List Tree) (room limit n : ℕ) → parts ≡ task
+    → below ≡ listed_levels parts (levels parts parts.ops) → room + length (all_of (levels parts parts.ops)) ≡ limit
     → trees ≡ map (λ s. s.tree) (all_of below) → n ≡ length trees → (trees ≡ skeletons task) × (n ≤ limit)
-nodes_are task below trees room limit n is full is_trees is_n =
-    let all : trees ≡ skeletons task = is_trees ∙ ap (λ x. map (λ s. s.tree) (all_of x)) is ∙ trees_are task (levels task task.ops) in
-    let size : n ≡ length (skeletons task) = is_n ∙ ap length all in
-    (all, omega (arith, size, full))
+nodes_are task parts below trees room limit n same is full is_trees is_n =
+    let all : trees ≡ skeletons parts = is_trees ∙ ap (λ x. map (λ s. s.tree) (all_of x)) is ∙ trees_are parts (levels parts parts.ops) in
+    let size : n ≡ length (skeletons parts) = is_n ∙ ap length all in
+    (all ∙ ap skeletons same, omega (arith, size, full))
+
+-- what is answered as found was listed
+pub found_listed : {A E : Type 0} (listed : Result A ListFault) (given : Result (Option A) E) (found : A) → UnlessTooMany listed given → given ≡ Ok (Some found) → listed ≡ Ok found
+found_listed {A} {E} (Ok x) given found told is = let same : ◌≡◌ {A = Result (Option A) E} (Ok (Some x)) (Ok (Some found)) = sym told ∙ is in let e : x ≡ found = cc in ap Ok e
+found_listed {A} {E} (Err TooMany) given found told is = let same : ◌≡◌ {A = Result (Option A) E} (Ok None) (Ok (Some found)) = sym told ∙ is in cc
+found_listed {A} {E} (Err OutOfMemory) given found told is = absurd (false≢true (rw is at told))

@@ -4,7 +4,7 @@ use Rattle.std.specs.List.{flat_map, range_with_len}
 use Rattle.std.proofs.lemmas.List.{drop_more}
 use Rattle.skeleton_list.proofs.RangeLaws.{range_next}
 use Rattle.table_core.specs.declared.task.TaskParts.{TaskParts}
-use Rattle.skeleton_list.specs.declared.pairing.Pairing.{Pairing}
+use Rattle.skeleton_list.specs.declared.meeting.Meeting.{Meeting}
 use Rattle.skeleton_list.specs.Listed.{Listed, Lists, listed_at, pairs_between, pairs_at}
 use Rattle.skeleton_list.specs.declared.fault.ListFault.{ListFault}
 use Rattle.skeleton_list.specs.declared.fault.ListFault.TheVariants.{TooMany, OutOfMemory}
@@ -50,6 +50,6 @@ pub range_loop_more : (f : ℕ → List Listed) (out more whole : List Listed) (
 range_loop_more f out more whole i n below next is = rw (next, append_assoc) (range_loop_part f out whole i n below is)
 
 -- the skeletons of a level's parts, by what they are
-pub pairs_at_is : (task : TaskParts) (kind : Pairing) (levels : List (List Listed)) (i n : ℕ) (lefts rights : List Listed) → n ≡ length levels → lefts ≡ listed_at levels i → rights ≡ listed_at levels (n - 1 - i)
-    → pairs_between task kind lefts rights ≡ pairs_at task kind levels i
-pairs_at_is task kind levels i n lefts rights size left right = rw (left, right, size) refl
+pub pairs_at_is : (task : TaskParts) (how : Meeting) (levels : List (List Listed)) (i n : ℕ) (lefts rights : List Listed) → n ≡ length levels → lefts ≡ listed_at levels i → rights ≡ listed_at levels (n - 1 - i)
+    → pairs_between task how lefts rights ≡ pairs_at task how levels i
+pairs_at_is task how levels i n lefts rights size left right = rw (left, right, size) refl

@@ -6,7 +6,7 @@ ghost use Rattle.query_core.specs.Meaning.{type_at};
 ghost use Rattle.query_core.specs.Grammar.{key_lists, free_columns, int_columns, allowed, agg_list};
 ghost use Rattle.query_core.specs.declared.agg.Agg.TheVariants.{CountAll, Count, CountDistinct, Sum, Min, Max};
 
-use query_core::Agg;
+use query_core::{Agg, same_type, type_at};
 use sqlite_items::Items;
 use std::alloc::Global;
 use table_core::AggSet;
@@ -16,7 +16,7 @@ use value_core::{ColType, OutOfMemory, copied};
 fn push_key(alloc: Global, out: &mut Items<Items<usize>>, key: usize) -> Result<(), OutOfMemory>
     ensures { OnOk result (out.new ≡ out.old ++ (key ∷ []) ∷ []) }
 {
-    out.push(copied(alloc, &[key])?).map_err(|_| OutOfMemory)
+    Ok(out.push(copied(alloc, &[key])?)?)
 }
 
 // Appends the lists of single keys.
@@ -42,8 +42,7 @@ fn push_two_keys(
 ) -> Result<(), OutOfMemory>
     ensures { OnOk result (out.new ≡ out.old ++ (first ∷ second ∷ []) ∷ []) }
 {
-    out.push(copied(alloc, &[first, second])?)
-        .map_err(|_| OutOfMemory)
+    Ok(out.push(copied(alloc, &[first, second])?)?)
 }
 
 // Appends the lists of the key at a place and a later one.
@@ -83,7 +82,7 @@ fn below(alloc: Global, width: usize) -> Result<Items<usize>, OutOfMemory>
 {
     let mut out = Items::new(alloc);
     for i in 0..width {
-        out.push(i).map_err(|_| OutOfMemory)?;
+        out.push(i)?;
     }
     Ok(out)
 }
@@ -94,7 +93,7 @@ pub fn key_lists(alloc: Global, width: usize) -> Result<Items<Items<usize>>, Out
 {
     let columns = below(alloc, width)?;
     let mut out = Items::new(alloc);
-    out.push(Items::new(alloc)).map_err(|_| OutOfMemory)?;
+    out.push(Items::new(alloc))?;
     push_single_keys(alloc, &mut out, columns.as_slice())?;
     push_key_pairs(alloc, &mut out, columns.as_slice())?;
     Ok(out)
@@ -114,7 +113,7 @@ fn push_free(out: &mut Items<usize>, keys: &[usize], column: usize) -> Result<()
     if is_key(keys, column) {
         Ok(())
     } else {
-        out.push(column).map_err(|_| OutOfMemory)
+        Ok(out.push(column)?)
     }
 }
 
@@ -134,10 +133,7 @@ fn free_columns(alloc: Global, width: usize, keys: &[usize]) -> Result<Items<usi
 fn is_int(types: &[ColType], column: usize) -> bool
     ensures { result ≡ same_type (type_at types.now column) ColType.Int }
 {
-    match types.get(column) {
-        Some(kind) => *kind == ColType::Int,
-        None => false,
-    }
+    same_type(type_at(types, column), ColType::Int)
 }
 
 // Appends a column, if it has whole numbers.
@@ -145,7 +141,7 @@ fn push_int(out: &mut Items<usize>, types: &[ColType], column: usize) -> Result<
     ensures { OnOk result (out.new ≡ out.old ++ filter (λ i. same_type (type_at types.now i) ColType.Int) (column ∷ [])) }
 {
     if is_int(types, column) {
-        out.push(column).map_err(|_| OutOfMemory)
+        Ok(out.push(column)?)
     } else {
         Ok(())
     }
@@ -171,7 +167,7 @@ fn push_count_all(out: &mut Items<Agg>, flag: bool) -> Result<(), OutOfMemory>
     ensures { OnOk result (out.new ≡ out.old ++ allowed flag (CountAll ∷ [])) }
 {
     if flag {
-        out.push(Agg::CountAll).map_err(|_| OutOfMemory)
+        Ok(out.push(Agg::CountAll)?)
     } else {
         Ok(())
     }
@@ -182,7 +178,7 @@ fn push_counts(out: &mut Items<Agg>, columns: &[usize]) -> Result<(), OutOfMemor
     ensures { OnOk result (out.new ≡ out.old ++ map Count columns.now) }
 {
     for column in columns {
-        out.push(Agg::Count(*column)).map_err(|_| OutOfMemory)?;
+        out.push(Agg::Count(*column))?;
     }
     Ok(())
 }
@@ -192,8 +188,7 @@ fn push_distinct_counts(out: &mut Items<Agg>, columns: &[usize]) -> Result<(), O
     ensures { OnOk result (out.new ≡ out.old ++ map CountDistinct columns.now) }
 {
     for column in columns {
-        out.push(Agg::CountDistinct(*column))
-            .map_err(|_| OutOfMemory)?;
+        out.push(Agg::CountDistinct(*column))?;
     }
     Ok(())
 }
@@ -203,7 +198,7 @@ fn push_sums(out: &mut Items<Agg>, columns: &[usize]) -> Result<(), OutOfMemory>
     ensures { OnOk result (out.new ≡ out.old ++ map Sum columns.now) }
 {
     for column in columns {
-        out.push(Agg::Sum(*column)).map_err(|_| OutOfMemory)?;
+        out.push(Agg::Sum(*column))?;
     }
     Ok(())
 }
@@ -213,7 +208,7 @@ fn push_mins(out: &mut Items<Agg>, columns: &[usize]) -> Result<(), OutOfMemory>
     ensures { OnOk result (out.new ≡ out.old ++ map Min columns.now) }
 {
     for column in columns {
-        out.push(Agg::Min(*column)).map_err(|_| OutOfMemory)?;
+        out.push(Agg::Min(*column))?;
     }
     Ok(())
 }
@@ -223,7 +218,7 @@ fn push_maxes(out: &mut Items<Agg>, columns: &[usize]) -> Result<(), OutOfMemory
     ensures { OnOk result (out.new ≡ out.old ++ map Max columns.now) }
 {
     for column in columns {
-        out.push(Agg::Max(*column)).map_err(|_| OutOfMemory)?;
+        out.push(Agg::Max(*column))?;
     }
     Ok(())
 }

@@ -1,7 +1,7 @@
-ghost use Rattle.std.specs.Prelude.{◌≡◌, ◌≤◌, ◌<◌, ◌+◌, ◌++◌, length, map, Err, IfOk, OnOk, MatchOption, [], ◌∷◌};
+ghost use Rattle.std.specs.Prelude.{◌≡◌, ◌≤◌, ◌<◌, ◌+◌, ◌^◌, ◌++◌, length, map, Err, IfOk, OnOk, MatchOption, [], ◌∷◌};
 ghost use Rattle.query_core.specs.View.{tree};
 ghost use Rattle.query_core.specs.Grammar.{levels, skeletons};
-ghost use Rattle.skeleton_list.specs.Listed.{listed_levels, all_of, next_listed};
+ghost use Rattle.skeleton_list.specs.Listed.{UnlessTooMany, listed_levels, all_of, next_listed};
 ghost use Rattle.skeleton_list.specs.View.{plains, plain_levels};
 ghost use Rattle.skeleton_list.specs.declared.fault.ListFault.TheVariants.{TooMany};
 
@@ -11,7 +11,7 @@ use crate::skeleton::Skeleton;
 use query_core::Node;
 use sqlite_items::Items;
 use std::alloc::Global;
-use table_core::TaskParts;
+use table_core::{Task, TaskParts};
 use value_core::OutOfMemory;
 
 // Levels of skeletons, and for how many skeletons more there is room.
@@ -31,15 +31,14 @@ impl Levels {
         let Some(room) = room.checked_sub(next.len()) else {
             return Err(ListFault::TooMany);
         };
-        match levels.push(next) {
-            Ok(()) => Ok(Levels { levels, room }),
-            Err(_) => Err(ListFault::OutOfMemory),
-        }
+        levels.push(next)?;
+        Ok(Levels { levels, room })
     }
 }
 
 // The level of the inputs alone.
 fn first_level(alloc: Global, task: &TaskParts, limit: usize) -> Result<Levels, ListFault>
+    requires { length task.now.inputs < 2 ^ 32 }
     ensures first { IfOk result (λ l. (plain_levels l.levels ≡ listed_levels task.now (levels task.now 0)) × (l.room + length (all_of (levels task.now 0)) ≡ limit)) }
     ensures many { result ≡ Err TooMany → limit < length (all_of (levels task.now 0)) }
 {
@@ -66,6 +65,7 @@ fn levels_up_to(
     limit: usize,
     ops: u32,
 ) -> Result<Levels, ListFault>
+    requires { length task.now.inputs < 2 ^ 32 }
     ensures listed { IfOk result (λ l. (plain_levels l.levels ≡ listed_levels task.now (levels task.now ops)) × (l.room + length (all_of (levels task.now ops)) ≡ limit)) }
     ensures many { result ≡ Err TooMany → limit < length (all_of (levels task.now ops)) }
 {
@@ -81,8 +81,7 @@ fn push_nodes(alloc: Global, level: &[Skeleton], out: &mut Items<Node>) -> Resul
     ensures { OnOk result (map tree out.new ≡ map tree out.old ++ map (λ s. s.tree) (plains level.now)) }
 {
     for skeleton in level {
-        out.push(skeleton.node.copy(alloc)?)
-            .map_err(|_| OutOfMemory)?;
+        out.push(skeleton.node.copy(alloc)?)?;
     }
     Ok(())
 }
@@ -98,17 +97,29 @@ fn nodes(alloc: Global, levels: &[Items<Skeleton>]) -> Result<Items<Node>, OutOf
     Ok(out)
 }
 
+// The levels, nothing where there are too many; want of memory stays what it is.
+fn unless_too_many(listed: Result<Levels, ListFault>) -> Result<Option<Levels>, OutOfMemory>
+    ensures { UnlessTooMany listed result }
+{
+    match listed {
+        Ok(found) => Ok(Some(found)),
+        Err(ListFault::TooMany) => Ok(None),
+        Err(ListFault::OutOfMemory) => Err(OutOfMemory),
+    }
+}
+
 /// All skeletons of a task in their order, or nothing where there are more than `limit`.
 pub fn skeletons(
     alloc: Global,
-    task: &TaskParts,
+    task: &Task,
     limit: usize,
 ) -> Result<Option<Items<Node>>, OutOfMemory>
     ensures { IfOk result (λ found. MatchOption found (limit < length (skeletons task.now)) (λ nodes. (map tree nodes ≡ skeletons task.now) × (length nodes ≤ limit))) }
 {
-    match levels_up_to(alloc, task, limit, task.ops) {
-        Ok(found) => Ok(Some(nodes(alloc, found.levels.as_slice())?)),
-        Err(ListFault::TooMany) => Ok(None),
-        Err(ListFault::OutOfMemory) => Err(OutOfMemory),
+    let parts = task.parts();
+    let listed = levels_up_to(alloc, parts, limit, parts.ops);
+    match unless_too_many(listed)? {
+        Some(found) => Ok(Some(nodes(alloc, found.levels.as_slice())?)),
+        None => Ok(None),
     }
 }

@@ -5,13 +5,11 @@ mod fault;
 mod keys;
 mod levels;
 mod list;
-mod pairing;
+mod meeting;
 mod skeleton;
 
 pub use fault::ListFault;
 pub use levels::skeletons;
-pub use pairing::Pairing;
-pub use skeleton::Skeleton;
 
 #[cfg(test)]
 mod tests;

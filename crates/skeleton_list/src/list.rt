@@ -1,4 +1,4 @@
-ghost use Rattle.std.specs.Prelude.{◌≡◌, ◌<◌, ◌∷◌, [], length, map, flat_map, ◌++◌, Err, IfOk, OnOk};
+ghost use Rattle.std.specs.Prelude.{◌≡◌, ◌<◌, ◌^◌, ◌∷◌, [], length, map, flat_map, ◌++◌, Err, IfOk, OnOk};
 ghost use Rattle.query_core.specs.Tree.{base};
 ghost use Rattle.query_core.specs.Grammar.{bases};
 ghost use Rattle.skeleton_list.specs.Listed.{Lists, listed, filter_on, pair_on, pairs_between, pairs_at, pairs_on, first_kinds, last_kinds, group_on, keyed_on, groups_on, last_listed, listed_at, next_listed};
@@ -7,9 +7,9 @@ ghost use Rattle.skeleton_list.specs.declared.fault.ListFault.TheVariants.{TooMa
 
 use crate::fault::ListFault;
 use crate::keys::{agg_list, key_lists};
-use crate::pairing::Pairing;
+use crate::meeting::Meeting;
 use crate::skeleton::Skeleton;
-use query_core::Agg;
+use query_core::{Agg, Pairing, Uniting};
 use sqlite_items::Items;
 use std::alloc::Global;
 use table_core::TaskParts;
@@ -22,10 +22,7 @@ fn push(room: usize, out: &mut Vec<Skeleton>, skeleton: Skeleton) -> Result<(), 
     if out.len() >= room {
         return Err(ListFault::TooMany);
     }
-    match out.push(skeleton) {
-        Ok(()) => Ok(()),
-        Err(_) => Err(ListFault::OutOfMemory),
-    }
+    Ok(out.push(skeleton)?)
 }
 
 // Appends the filter over a skeleton, where it takes one.
@@ -59,20 +56,20 @@ fn push_filters(
     Ok(())
 }
 
-// Appends the skeleton of two parts, where they may be paired.
+// Appends the skeleton of two parts, where they may meet so.
 fn push_pair(
     alloc: Global,
     task: &TaskParts,
     room: usize,
-    kind: Pairing,
+    how: Meeting,
     a: &Skeleton,
     b: &Skeleton,
     out: &mut Vec<Skeleton>,
 ) -> Result<(), ListFault>
-    ensures { Lists room (plains out.old.items) (plains out.new.items) (pair_on task.now kind (plain a.now) (plain b.now)) result }
+    ensures { Lists room (plains out.old.items) (plains out.new.items) (pair_on task.now how (plain a.now) (plain b.now)) result }
 {
-    if a.may_pair(task, kind, b) {
-        push(room, out, a.pair(alloc, kind, b)?)
+    if a.may_meet(task, how, b) {
+        push(room, out, a.with(alloc, how, b)?)
     } else {
         Ok(())
     }
@@ -83,15 +80,15 @@ fn push_pairs_with(
     alloc: Global,
     task: &TaskParts,
     room: usize,
-    kind: Pairing,
+    how: Meeting,
     a: &Skeleton,
     rights: &[Skeleton],
     out: &mut Vec<Skeleton>,
 ) -> Result<(), ListFault>
-    ensures { Lists room (plains out.old.items) (plains out.new.items) (flat_map (pair_on task.now kind (plain a.now)) (plains rights.now)) result }
+    ensures { Lists room (plains out.old.items) (plains out.new.items) (flat_map (pair_on task.now how (plain a.now)) (plains rights.now)) result }
 {
     for b in rights {
-        push_pair(alloc, task, room, kind, a, b, out)?;
+        push_pair(alloc, task, room, how, a, b, out)?;
     }
     Ok(())
 }
@@ -101,15 +98,15 @@ fn push_pairs_between(
     alloc: Global,
     task: &TaskParts,
     room: usize,
-    kind: Pairing,
+    how: Meeting,
     lefts: &[Skeleton],
     rights: &[Skeleton],
     out: &mut Vec<Skeleton>,
 ) -> Result<(), ListFault>
-    ensures { Lists room (plains out.old.items) (plains out.new.items) (pairs_between task.now kind (plains lefts.now) (plains rights.now)) result }
+    ensures { Lists room (plains out.old.items) (plains out.new.items) (pairs_between task.now how (plains lefts.now) (plains rights.now)) result }
 {
     for a in lefts {
-        push_pairs_with(alloc, task, room, kind, a, rights, out)?;
+        push_pairs_with(alloc, task, room, how, a, rights, out)?;
     }
     Ok(())
 }
@@ -222,17 +219,17 @@ fn push_pairs_at(
     alloc: Global,
     task: &TaskParts,
     room: usize,
-    kind: Pairing,
+    how: Meeting,
     levels: &[Items<Skeleton>],
     number: usize,
     out: &mut Vec<Skeleton>,
 ) -> Result<(), ListFault>
     requires { number < length levels.now }
-    ensures { Lists room (plains out.old.items) (plains out.new.items) (pairs_at task.now kind (plain_levels levels.now) number) result }
+    ensures { Lists room (plains out.old.items) (plains out.new.items) (pairs_at task.now how (plain_levels levels.now) number) result }
 {
     let lefts = level(levels, number);
     let rights = level(levels, levels.len() - 1 - number);
-    push_pairs_between(alloc, task, room, kind, lefts, rights, out)
+    push_pairs_between(alloc, task, room, how, lefts, rights, out)
 }
 
 // Appends the skeletons of two parts of the levels so far.
@@ -240,14 +237,14 @@ fn push_pairs(
     alloc: Global,
     task: &TaskParts,
     room: usize,
-    kind: Pairing,
+    how: Meeting,
     levels: &[Items<Skeleton>],
     out: &mut Vec<Skeleton>,
 ) -> Result<(), ListFault>
-    ensures { Lists room (plains out.old.items) (plains out.new.items) (pairs_on task.now kind (plain_levels levels.now)) result }
+    ensures { Lists room (plains out.old.items) (plains out.new.items) (pairs_on task.now how (plain_levels levels.now)) result }
 {
     for number in 0..levels.len() {
-        push_pairs_at(alloc, task, room, kind, levels, number, out)?;
+        push_pairs_at(alloc, task, room, how, levels, number, out)?;
     }
     Ok(())
 }
@@ -263,8 +260,8 @@ fn push_first_kinds(
     ensures { Lists room (plains out.old.items) (plains out.new.items) (first_kinds task.now (plain_levels levels.now)) result }
 {
     push_filters(alloc, room, last_level(levels), out)?;
-    push_pairs(alloc, task, room, Pairing::Join, levels, out)?;
-    push_pairs(alloc, task, room, Pairing::Left, levels, out)
+    push_pairs(alloc, task, room, Meeting::Pair(Pairing::Join), levels, out)?;
+    push_pairs(alloc, task, room, Meeting::Pair(Pairing::Left), levels, out)
 }
 
 // Appends the last kinds of the next level: groups and unions.
@@ -278,8 +275,15 @@ fn push_last_kinds(
     ensures { Lists room (plains out.old.items) (plains out.new.items) (last_kinds task.now (plain_levels levels.now)) result }
 {
     push_all_groups(alloc, task, room, last_level(levels), out)?;
-    push_pairs(alloc, task, room, Pairing::UnionAll, levels, out)?;
-    push_pairs(alloc, task, room, Pairing::Union, levels, out)
+    push_pairs(alloc, task, room, Meeting::Union(Uniting::All), levels, out)?;
+    push_pairs(
+        alloc,
+        task,
+        room,
+        Meeting::Union(Uniting::Firsts),
+        levels,
+        out,
+    )
 }
 
 // The skeletons of the last level.
@@ -312,18 +316,15 @@ fn push_base(
     table: usize,
     out: &mut Items<Skeleton>,
 ) -> Result<(), OutOfMemory>
+    requires { table < 2 ^ 32 }
     ensures { OnOk result (plains out.new ≡ plains out.old ++ listed task.now (base table) ∷ []) }
 {
-    match u32::try_from(table) {
-        Ok(number) => out
-            .push(Skeleton::base(alloc, task, number)?)
-            .map_err(|_| OutOfMemory),
-        Err(_) => Err(OutOfMemory),
-    }
+    Ok(out.push(Skeleton::base(alloc, task, table as u32)?)?)
 }
 
 /// The inputs, in order.
 pub fn bases(alloc: Global, task: &TaskParts) -> Result<Items<Skeleton>, OutOfMemory>
+    requires { length task.now.inputs < 2 ^ 32 }
     ensures { IfOk result (λ out. plains out ≡ map (listed task.now) (bases task.now)) }
 {
     let mut out = Items::new(alloc);

@@ -1,20 +1,19 @@
-ghost use Rattle.std.specs.Prelude.{◌≡◌, ◌++◌, nat_le, ◌+◌, length, not, ◌&&◌, IfOk};
-ghost use Rattle.std.specs.Ordering.{nat_cmp, is_gt};
-ghost use Rattle.std.specs.Cmp.Lexicographic.{slice_cmp, pointwise};
+ghost use Rattle.std.specs.Prelude.{◌≡◌, IfOk};
+ghost use Rattle.std.specs.Cmp.Lexicographic.{pointwise};
 ghost use Rattle.value_core.specs.Value.{same_type};
 ghost use Rattle.query_core.specs.Grammar.{takes_filter};
 ghost use Rattle.query_core.specs.Tree.{base, filter};
 ghost use Rattle.query_core.specs.View.{tree};
-ghost use Rattle.skeleton_list.specs.Listed.{listed, may_pair, paired, paired_tree, paired_types, group_on, Listed};
+ghost use Rattle.skeleton_list.specs.Listed.{listed, are_few, are_in_order, pair_in_order, may_meet, met, met_tree, met_types, group_on, Listed};
 ghost use Rattle.skeleton_list.specs.View.{plain};
 
-use crate::pairing::Pairing;
+use crate::meeting::Meeting;
 use predicate_core::Pred;
-use query_core::{Agg, Node, group_types, input_types};
+use query_core::{Agg, Node, Pairing, group_types, input_types, same_types};
 use sqlite_items::Items;
 use std::alloc::Global;
 use table_core::TaskParts;
-use value_core::{ColType, OutOfMemory, copied, concatenated};
+use value_core::{ColType, OutOfMemory, concatenated, copied};
 
 /// A skeleton with the table numbers of its leaves and the types of its columns.
 #[derive(Debug, Drop)]
@@ -31,47 +30,30 @@ fn takes_filter(node: &Node) -> bool
     !matches!(node, Node::Filter(..) | Node::Join(..))
 }
 
-// Whether two lists of types are the same.
-fn same_types(a: &[ColType], b: &[ColType]) -> bool
-    ensures { result ≡ pointwise same_type a.now b.now }
-{
-    if a.len() != b.len() {
-        return false;
-    }
-    for i in 0..a.len() {
-        if a[i] != b[i] {
-            return false;
-        }
-    }
-    true
-}
-
-// The tree of two parts.
-fn paired_node(alloc: Global, kind: Pairing, a: &Node, b: &Node) -> Result<Node, OutOfMemory>
-    ensures { IfOk result (λ n. tree n ≡ paired_tree kind (tree a.now) (tree b.now)) }
+// The tree of two parts that meet so, its predicate open.
+fn met_node(alloc: Global, how: Meeting, a: &Node, b: &Node) -> Result<Node, OutOfMemory>
+    ensures { IfOk result (λ n. tree n ≡ met_tree how (tree a.now) (tree b.now)) }
 {
     let a = a.boxed(alloc)?;
     let b = b.boxed(alloc)?;
-    match kind {
-        Pairing::Join => Ok(Node::Join(a, b, Pred::Always)),
-        Pairing::Left => Ok(Node::Left(a, b, Pred::Always)),
-        Pairing::UnionAll => Ok(Node::UnionAll(a, b)),
-        Pairing::Union => Ok(Node::Union(a, b)),
+    match how {
+        Meeting::Pair(kind) => Ok(Node::pair(kind, a, b, Pred::Always)),
+        Meeting::Union(kind) => Ok(Node::unite(kind, a, b)),
     }
 }
 
 // The types of its columns.
-fn paired_types(
+fn met_types(
     alloc: Global,
-    kind: Pairing,
+    how: Meeting,
     a: &[ColType],
     b: &[ColType],
 ) -> Result<Items<ColType>, OutOfMemory>
-    ensures { IfOk result (λ types. types ≡ paired_types kind a.now b.now) }
+    ensures { IfOk result (λ types. types ≡ met_types how a.now b.now) }
 {
-    match kind {
-        Pairing::Join | Pairing::Left => concatenated(alloc, a, b),
-        Pairing::UnionAll | Pairing::Union => copied(alloc, a),
+    match how {
+        Meeting::Pair(_) => concatenated(alloc, a, b),
+        Meeting::Union(_) => copied(alloc, a),
     }
 }
 
@@ -83,7 +65,7 @@ impl Skeleton {
         Ok(Skeleton {
             node: Node::Base(table),
             leaves: copied(alloc, &[table])?,
-            types: input_types(alloc, task, table as usize)?,
+            types: input_types(alloc, task.inputs.as_slice(), table as usize)?,
         })
     }
 
@@ -106,8 +88,8 @@ impl Skeleton {
     }
 
     // Whether it has, together with another, no more leaves than the task allows.
-    fn may_meet(&self, task: &TaskParts, other: &Skeleton) -> bool
-        ensures { result ≡ nat_le (length self.now.leaves + length other.now.leaves) task.now.leaves }
+    fn has_room_for(&self, task: &TaskParts, other: &Skeleton) -> bool
+        ensures { result ≡ are_few task.now (plain self.now) (plain other.now) }
     {
         match (task.leaves as usize).checked_sub(self.leaves.len()) {
             Some(left) => other.leaves.len() <= left,
@@ -117,9 +99,19 @@ impl Skeleton {
 
     // Whether its leaves don't come after another's.
     fn in_order(&self, other: &Skeleton) -> bool
-        ensures { result ≡ not (is_gt (slice_cmp nat_cmp self.now.leaves other.now.leaves)) }
+        ensures { result ≡ are_in_order (plain self.now) (plain other.now) }
     {
         !self.leaves.as_slice().cmp(other.leaves.as_slice()).is_gt()
+    }
+
+    // Whether it may stand in a pair before another.
+    fn pairs_in_order(&self, kind: Pairing, other: &Skeleton) -> bool
+        ensures { result ≡ pair_in_order kind (plain self.now) (plain other.now) }
+    {
+        match kind {
+            Pairing::Join => self.in_order(other),
+            Pairing::Left => true,
+        }
     }
 
     // Whether its columns have the types of another's.
@@ -129,53 +121,30 @@ impl Skeleton {
         same_types(self.types.as_slice(), other.types.as_slice())
     }
 
-    // Whether it may meet another and stands in order before it.
-    fn may_lead(&self, task: &TaskParts, other: &Skeleton) -> bool
-        ensures { result ≡ (nat_le (length self.now.leaves + length other.now.leaves) task.now.leaves && not (is_gt (slice_cmp nat_cmp self.now.leaves other.now.leaves))) }
+    /// Whether it may meet another so.
+    pub fn may_meet(&self, task: &TaskParts, how: Meeting, other: &Skeleton) -> bool
+        ensures { result ≡ may_meet task.now how (plain self.now) (plain other.now) }
     {
-        if self.may_meet(task, other) {
-            self.in_order(other)
-        } else {
-            false
-        }
-    }
-
-    // Whether it may lead another of the same types.
-    fn may_unite(&self, task: &TaskParts, other: &Skeleton) -> bool
-        ensures { result ≡ ((nat_le (length self.now.leaves + length other.now.leaves) task.now.leaves && not (is_gt (slice_cmp nat_cmp self.now.leaves other.now.leaves))) && pointwise same_type self.now.types other.now.types) }
-    {
-        if self.may_lead(task, other) {
-            self.same_types(other)
-        } else {
-            false
-        }
-    }
-
-    /// Whether it may be paired so with another.
-    pub fn may_pair(&self, task: &TaskParts, kind: Pairing, other: &Skeleton) -> bool
-        ensures { result ≡ may_pair task.now kind (plain self.now) (plain other.now) }
-    {
-        match kind {
-            Pairing::Join => self.may_lead(task, other),
-            Pairing::Left => self.may_meet(task, other),
-            Pairing::UnionAll => self.may_unite(task, other),
-            Pairing::Union => self.may_unite(task, other),
+        let few = self.has_room_for(task, other);
+        match how {
+            Meeting::Pair(kind) => few && self.pairs_in_order(kind, other),
+            Meeting::Union(_) => few && self.in_order(other) && self.same_types(other),
         }
     }
 
     /// The skeleton of it and another.
-    pub fn pair(
+    pub fn with(
         &self,
         alloc: Global,
-        kind: Pairing,
+        how: Meeting,
         other: &Skeleton,
     ) -> Result<Skeleton, OutOfMemory>
-        ensures { IfOk result (λ s. plain s ≡ paired kind (plain self.now) (plain other.now)) }
+        ensures { IfOk result (λ s. plain s ≡ met how (plain self.now) (plain other.now)) }
     {
         Ok(Skeleton {
-            node: paired_node(alloc, kind, &self.node, &other.node)?,
+            node: met_node(alloc, how, &self.node, &other.node)?,
             leaves: concatenated(alloc, self.leaves.as_slice(), other.leaves.as_slice())?,
-            types: paired_types(alloc, kind, self.types.as_slice(), other.types.as_slice())?,
+            types: met_types(alloc, how, self.types.as_slice(), other.types.as_slice())?,
         })
     }
 

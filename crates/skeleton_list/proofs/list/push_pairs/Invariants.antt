@@ -6,5 +6,5 @@ use Rattle.skeleton_list.proofs.list.push_pairs.Given as goal
 
 abbrev pub invariant-loop-number : goal.invariant-loop-number
 invariant-loop-number l =
-    plains l.out.items ++ flat_map (pairs_at l.task l.kind (plain_levels l.levels)) (range_with_len l.number (length l.levels - l.number))
-    ≡ plains l.initial.out.items ++ pairs_on l.task l.kind (plain_levels l.levels)
+    plains l.out.items ++ flat_map (pairs_at l.task l.how (plain_levels l.levels)) (range_with_len l.number (length l.levels - l.number))
+    ≡ plains l.initial.out.items ++ pairs_on l.task l.how (plain_levels l.levels)

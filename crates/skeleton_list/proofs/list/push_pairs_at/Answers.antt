@@ -8,6 +8,6 @@ use Rattle.skeleton_list.proofs.list.push_pairs_at.Goals as goal
 pub returns : goal.returns
 returns c =
     let levels = plain_levels c.args.levels.now in
-    let same : pairs_between c.args.task.now c.args.kind (plains c.level-lefts.result.now) (plains c.level-rights.result.now) ≡ pairs_at c.args.task.now c.args.kind levels c.args.number =
-    pairs_at_is c.args.task.now c.args.kind levels c.args.number (length c.args.levels.now) _ _ (sym (length-map c.args.levels.now plains)) c.level-lefts.ensures c.level-rights.ensures in
+    let same : pairs_between c.args.task.now c.args.how (plains c.level-lefts.result.now) (plains c.level-rights.result.now) ≡ pairs_at c.args.task.now c.args.how levels c.args.number =
+    pairs_at_is c.args.task.now c.args.how levels c.args.number (length c.args.levels.now) _ _ (sym (length-map c.args.levels.now plains)) c.level-lefts.ensures c.level-rights.ensures in
     rw (← same) c.push_pairs_between.ensures

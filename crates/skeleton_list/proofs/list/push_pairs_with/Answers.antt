@@ -10,7 +10,7 @@ pub returns-in_err-push_pair : goal.returns-in_err-push_pair
 returns-in_err-push_pair c =
     let p = err_from_is_err_and c.from_residual.result c.from_residual.ensures.1 in
     let out = plains c.loop-b.out.items in
-    let whole = flat_map (pair_on c.args.task.now c.args.kind (plain c.args.a.now)) (plains c.args.rights.now) in
-    let rest = flat_map (pair_on c.args.task.now c.args.kind (plain c.args.a.now)) (plains (drop (c.loop-b.b-index + 1) c.args.rights.now)) in
-    let same = loop_part (pair_on c.args.task.now c.args.kind (plain c.args.a.now)) plain out _ c.args.rights.now c.loop-b.b-index c.b-item.result c.b-item.result (omega arith) c.b-item.is c.loop-b.invariant in
-    rw (p.1, p.2) (stops c.args.room (plains c.args.out.now.items) whole out (plains c.push_pair.new.out.items) ((pair_on c.args.task.now c.args.kind (plain c.args.a.now)) (plain c.b-item.result)) rest c.in_err-push_pair.field-0.0 same c.in_err-push_pair.ensures)
+    let whole = flat_map (pair_on c.args.task.now c.args.how (plain c.args.a.now)) (plains c.args.rights.now) in
+    let rest = flat_map (pair_on c.args.task.now c.args.how (plain c.args.a.now)) (plains (drop (c.loop-b.b-index + 1) c.args.rights.now)) in
+    let same = loop_part (pair_on c.args.task.now c.args.how (plain c.args.a.now)) plain out _ c.args.rights.now c.loop-b.b-index c.b-item.result c.b-item.result (omega arith) c.b-item.is c.loop-b.invariant in
+    rw (p.1, p.2) (stops c.args.room (plains c.args.out.now.items) whole out (plains c.push_pair.new.out.items) ((pair_on c.args.task.now c.args.how (plain c.args.a.now)) (plain c.b-item.result)) rest c.in_err-push_pair.field-0.0 same c.in_err-push_pair.ensures)

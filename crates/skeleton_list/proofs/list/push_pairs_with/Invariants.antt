@@ -5,4 +5,4 @@ use Rattle.skeleton_list.specs.View.{plain, plains}
 use Rattle.skeleton_list.proofs.list.push_pairs_with.Given as goal
 
 abbrev pub invariant-loop-b : goal.invariant-loop-b
-invariant-loop-b l = plains l.out.items ++ flat_map (pair_on l.task l.kind (plain l.a)) (plains (drop l.b-index l.rights)) ≡ plains l.initial.out.items ++ flat_map (pair_on l.task l.kind (plain l.a)) (plains l.rights)
+invariant-loop-b l = plains l.out.items ++ flat_map (pair_on l.task l.how (plain l.a)) (plains (drop l.b-index l.rights)) ≡ plains l.initial.out.items ++ flat_map (pair_on l.task l.how (plain l.a)) (plains l.rights)

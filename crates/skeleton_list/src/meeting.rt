@@ -1,0 +1,8 @@
+use query_core::{Pairing, Uniting};
+
+/// How two parts meet in one skeleton: as a pair or as a union.
+#[derive(Clone, Copy, Debug, PartialEq, Eq)]
+pub enum Meeting {
+    Pair(Pairing),
+    Union(Uniting),
+}
