@@ -1,11 +1,14 @@
-ghost use Rattle.std.specs.Prelude.{◌≡◌, None};
+ghost use Rattle.std.specs.Prelude.{◌≡◌, ◌≢◌, ◌≤◌, ℕ, List, Err, None, IfOk, IfSome, length};
+ghost use Rattle.io_edge.specs.declared.fault.FolderFault.TheVariants.{Failed};
+ghost use Rattle.io_edge.specs.Rose.{Rose};
 
 use crate::fault::FolderFault;
 use crate::folder::Folder;
+use crate::reader::{fault_of, read_within};
 use std::alloc::Global;
 use std::fs::File;
 use std::io;
-use std::io::{ErrorKind, Read};
+use std::io::ErrorKind;
 use std::rt::Files;
 
 /// The files of the system, by their paths, with one count of faults for all of them.
@@ -29,32 +32,30 @@ impl<R: Files + Drop> Folder for DiskFolder<R> {
 
     ghost faults = { λ folder name. folder.faults };
 
-    fn read(&mut self, alloc: Global, name: &[u8], limit: usize) -> Result<Vec<u8>, FolderFault> {
-        match read_file(&self.files, alloc, name, limit) {
-            Ok(bytes) => {
-                if bytes.len() > limit {
-                    return Err(FolderFault::TooLong);
-                }
-                Ok(bytes)
-            }
-            Err(error) => {
-                if error.kind() == ErrorKind::OutOfMemory {
-                    return Err(FolderFault::OutOfMemory);
-                }
-                self.faults = self.faults.saturating_add(1);
-                Err(FolderFault::Failed)
-            }
+    fn read(&mut self, alloc: Global, name: &[u8], limit: usize) -> Result<Vec<u8>, FolderFault>
+        ensures short { IfOk result (λ v. length v.items ≤ limit) }
+        ensures kept { self.old.faults ≤ self.new.faults }
+        ensures failed { result ≡ Err Failed → Rose self.old.faults self.new.faults }
+        ensures still { result ≢ Err Failed → self.new.faults ≡ self.old.faults }
+
+        // What is answered is the whole of a file that was opened.
+        ensures whole { IfOk result (λ v. (file : R.File) × IfSome (R.File.remaining file) (λ bytes. v.items ≡ bytes)) }
+    {
+        let answer = match open(&self.files, name) {
+            Ok(file) => read_within(alloc, file, limit),
+            Err(error) => Err(fault_of(error.kind())),
+        };
+        if matches!(answer, Err(FolderFault::Failed)) {
+            self.faults = self.faults.saturating_add(1);
         }
+        answer
     }
 }
 
-// The bytes of a file, at most one more than `limit`.
-fn read_file<R: Files>(files: &R, alloc: Global, name: &[u8], limit: usize) -> io::Result<Vec<u8>> {
-    let Ok(path) = std::str::from_utf8(name) else {
-        return Err(io::Error::from(ErrorKind::InvalidFilename));
-    };
-    let mut bytes = Vec::new(alloc);
-    let most = (limit as u64).saturating_add(1);
-    File::open(files, path)?.take(most).read_to_end(&mut bytes)?;
-    Ok(bytes)
+// The file of a path.
+fn open<R: Files>(files: &R, name: &[u8]) -> io::Result<R::File> {
+    match std::str::from_utf8(name) {
+        Ok(path) => File::open(files, path),
+        Err(_) => Err(io::Error::from(ErrorKind::InvalidFilename)),
+    }
 }

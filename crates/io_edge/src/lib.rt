@@ -9,6 +9,7 @@ mod gate;
 mod mem_folder;
 mod mem_sink;
 mod numbers;
+mod reader;
 mod sink;
 mod std_sink;
 mod sure;

@@ -41,15 +41,13 @@ impl MemFolder {
     ) -> Result<MemFolder, OutOfMemory>
         ensures { IfOk result (λ m. m ≡ record { files = files.items; counts = replicate (length files.items + 1) 0; fails = fails.items; reads = 0 }) }
     {
-        match Vec::from_elem(alloc, 0, files.len() + 1) {
-            Ok(counts) => Ok(MemFolder {
-                files,
-                counts,
-                fails,
-                reads: 0,
-            }),
-            Err(_) => Err(OutOfMemory),
-        }
+        let counts = Vec::from_elem(alloc, 0, files.len() + 1)?;
+        Ok(MemFolder {
+            files,
+            counts,
+            fails,
+            reads: 0,
+        })
     }
 
     // The bytes that the next read of this name finds, unless it fails.

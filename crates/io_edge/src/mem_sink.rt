@@ -44,17 +44,15 @@ impl MemSink {
         requires { 1 ≤ largest }
         ensures { IfOk result (λ s. s ≡ record { bytes = []; room = room; largest = largest; fails = fails.items; writes = 0; count = 0 }) }
     {
-        match Vec::with_capacity(alloc, room) {
-            Ok(bytes) => Ok(MemSink {
-                bytes,
-                room,
-                largest,
-                fails,
-                writes: 0,
-                count: 0,
-            }),
-            Err(_) => Err(OutOfMemory),
-        }
+        let bytes = Vec::with_capacity(alloc, room)?;
+        Ok(MemSink {
+            bytes,
+            room,
+            largest,
+            fails,
+            writes: 0,
+            count: 0,
+        })
     }
 
     /// The bytes that were written.

@@ -1,4 +1,6 @@
-ghost use Rattle.std.specs.Prelude.{◌≡◌, None};
+ghost use Rattle.std.specs.Prelude.{◌≡◌, ◌≤◌, ◌<◌, None, length, IfOk, OnErr};
+ghost use Rattle.std.specs.Io.KnownBytes.{WriteAppends};
+ghost use Rattle.io_edge.specs.Rose.{Rose};
 
 use crate::fault::Failed;
 use crate::sink::Sink;
@@ -25,7 +27,15 @@ impl<W: Write + Drop> Sink for StdSink<W> {
 
     ghost faults = { λ sink. sink.faults };
 
-    fn write(&mut self, bytes: &[u8]) -> Result<usize, Failed> {
+    fn write(&mut self, bytes: &[u8]) -> Result<usize, Failed>
+        ensures within { IfOk result (λ n. n ≤ length bytes.now) }
+        ensures some { IfOk result (λ n. 0 < length bytes.now → 0 < n) }
+        ensures kept { self.old.faults ≤ self.new.faults }
+        ensures failed { OnErr result (Rose self.old.faults self.new.faults) }
+
+        // The writer gains what is said to be taken, and nothing at a fault.
+        ensures handed_on { WriteAppends (W.contents self.old.to) (W.contents self.new.to) result bytes.now }
+    {
         match self.to.write(bytes) {
             Ok(taken) if taken > 0 || bytes.is_empty() => Ok(taken),
             _ => {

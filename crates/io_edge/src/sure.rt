@@ -1,4 +1,4 @@
-ghost use Rattle.std.specs.Prelude.{◌≡◌, ℕ, List, Some, None};
+ghost use Rattle.std.specs.Prelude.{◌≡◌, ℕ, List, Ok, Some, None, length};
 ghost use Rattle.io_edge.specs.Files.{bytes_or_none};
 
 use crate::fault::{Failed, FolderFault};
@@ -54,7 +54,9 @@ impl Sink for SureSink {
 
     ghost faults = { λ s. 0 };
 
-    fn write(&mut self, bytes: &[u8]) -> Result<usize, Failed> {
+    fn write(&mut self, bytes: &[u8]) -> Result<usize, Failed>
+        ensures whole { result ≡ Ok (length bytes.now) }
+    {
         Ok(bytes.len())
     }
 }
