@@ -2,13 +2,25 @@
 use Rattle.std.proofs.Common.{◌≡◌, ◌≤◌, ◌<◌, ◌⊎◌, inl, inr, ℕ, zero, suc, List, [], ◌∷◌, ◌++◌, length, Option, Some, None, Bool, true, false, refl, arith}
 use Rattle.std.specs.Prelude.{◌==◌, if◌then◌else◌}
 use Rattle.csv.specs.Machine.{Read, after_end, ends_at_end, ends_with, field_after, fields_after, in_field, is_end, next_record, start_field, start_record, step}
-use Rattle.csv.specs.Reading.{Reached, default_config, records_from}
+use Rattle.csv.specs.Reading.{ExplainsRead, Reached, default_config, is_flexible, records_from, stops_reader}
+use Rattle.csv.specs.declared.error.ErrorKind.{ErrorKind}
+use Rattle.csv.specs.declared.error.ErrorKind.TheVariants as kind
+use Rattle.csv.specs.declared.reader.Reader.{Reader}
 use Rattle.csv.specs.declared.parser.Action.{Action}
 use Rattle.csv.specs.declared.parser.Action.TheVariants as act
 use Rattle.csv.specs.declared.parser.Config.{Config}
 use Rattle.csv.specs.declared.parser.State.{State}
 use Rattle.csv.specs.declared.parser.State.TheVariants as st
 use Rattle.csv.specs.declared.parser.Terminator.TheVariants as term
+
+-- a reader of records of any lengths, which takes any bytes for a field, stops only for the reader underneath or for memory
+pub flexible-stops : {R : Type 0} (rem : R → Option (List ℕ)) (a b : Reader R) (why : ErrorKind) → is_flexible a ≡ true → ExplainsRead rem a b false why → stops_reader why ≡ true
+flexible-stops rem a b (kind.Io e) flexible explains = refl
+flexible-stops rem a b (kind.Utf8 pos err) flexible explains = absurd (let e = explains.0 in cc)
+flexible-stops rem a b (kind.UnequalLengths pos expected len) flexible explains = absurd (let e = explains.0 in cc)
+flexible-stops rem a b kind.OutOfMemory flexible explains = refl
+flexible-stops rem a b (kind.Serialize why) flexible explains = absurd explains
+flexible-stops rem a b (kind.Deserialize pos err) flexible explains = absurd explains
 
 -- how a choice came to be a value: by its first side, or as its second
 if-some : {A : Type 0} (b : Bool) (q p : A) (o : Option A) → (if b then Some q else o) ≡ Some p → ((b ≡ true) × (q ≡ p)) ⊎ (o ≡ Some p)
