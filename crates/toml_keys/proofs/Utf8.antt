@@ -1,5 +1,5 @@
 -- What a document of UTF-8 reads as.
-use Rattle.std.proofs.Common.{◌≡◌, ℕ, Bool, true, false, List, Option, None, IsUtf8, refl}
+use Rattle.std.proofs.Common.{◌≡◌, ◌↔◌, ℕ, Bool, true, false, List, Option, None, Result, Ok, Err, IfOk, IsErr, option_map, IsUtf8, refl}
 use Rattle.std.proofs.lemmas.Str.{IsUtf8-from_is_utf8, is_utf8-from_IsUtf8}
 use Rattle.std.specs.Str.{is_utf8}
 use Rattle.toml.specs.Data.{Members}
@@ -19,3 +19,9 @@ none_unless false bytes is h = refl
 pub document_of_none : (bytes : List ℕ) → (IsUtf8 bytes → parse_document bytes ≡ None) → document_of bytes ≡ None
 unfolding document_of
 document_of_none bytes h = none_unless (is_utf8 bytes) bytes refl h
+
+-- an error that isn't want of memory says that the bytes write no table
+pub document_of_error : {A E : Type 0} (view : A → Members) (bytes : List ℕ) (memory : Type 0) (answer : Result (Option A) E)
+    → (IsErr answer ↔ memory) → IfOk answer (λ found. found ≡ None) → (¬ memory → IsUtf8 bytes → parse_document bytes ≡ None) → IfOk answer (λ found. option_map view found ≡ document_of bytes)
+document_of_error view bytes memory (Ok found) when_memory none refused = let no : ¬ memory = (λ m. cc (when_memory.1 m)) in rw (none, document_of_none bytes (refused no)) refl
+document_of_error view bytes memory (Err e) when_memory none refused = tt
