@@ -1,0 +1,91 @@
+//! Rows of bits.
+
+ghost use Rattle.std.specs.Prelude.{◌≡◌, length};
+
+use crate::fault::Failed;
+use bit_rows::BitRow;
+use std::alloc::Global;
+
+// A row of so many bits, of which every so many-th is set, from the first on.
+fn every(alloc: Global, len: usize, step: usize) -> Result<BitRow, Failed> {
+    let mut bits = Vec::new(alloc);
+    for i in 0..len {
+        bits.push(step != 0 && i % step == 0)?;
+    }
+    Ok(BitRow::of(alloc, bits.as_slice())?)
+}
+
+// The bits that are set in two rows, in both and in one of them.
+fn joined(rt: &impl Print, alloc: Global, a: &BitRow, b: &BitRow) -> Result<(), Failed>
+    requires { length a.now ≡ length b.now }
+{
+    let both = a.and(alloc, b)?;
+    let either = a.or(alloc, b)?;
+    println!(rt;
+        "{} bits: {} and {} are set, {} in both, {} in one",
+        a.len(),
+        a.ones(),
+        b.ones(),
+        both.ones(),
+        either.ones()
+    )?;
+    Ok(())
+}
+
+// Whether two rows give the same in the place of a third as by themselves.
+fn joined_in_place(rt: &impl Print, alloc: Global, a: &BitRow, b: &BitRow) -> Result<(), Failed>
+    requires { length a.now ≡ length b.now }
+{
+    let mut row = b.copy(alloc)?;
+    row.set_or(a, b);
+    let either = row.equal(&a.or(alloc, b)?);
+    row.set_and(a, b);
+    let both = row.equal(&a.and(alloc, b)?);
+    println!(rt; "the same in place: {both}, {either}")?;
+    Ok(())
+}
+
+// How long two rows are, and the steps of their bits.
+const PAIRS: &[(usize, usize, usize)] = &[
+    (0, 1, 2),
+    (1, 1, 2),
+    (63, 2, 3),
+    (64, 2, 3),
+    (65, 64, 32),
+    (130, 5, 13),
+];
+
+fn pair(rt: &impl Print, alloc: Global, case: &(usize, usize, usize)) -> Result<(), Failed> {
+    let a = every(alloc, case.0, case.1)?;
+    let b = every(alloc, case.0, case.2)?;
+    if a.len() != b.len() {
+        return Err(Failed::BadSample);
+    }
+    joined(rt, alloc, &a, &b)?;
+    joined_in_place(rt, alloc, &a, &b)
+}
+
+// The places of the bits that are set, of one that is past the end, and whether all are.
+fn read(rt: &impl Print, alloc: Global) -> Result<(), Failed> {
+    let row = every(alloc, 130, 64)?;
+    for i in 0..130 {
+        if row.bit(i) == Some(true) {
+            println!(rt; "bit {i} is set")?;
+        }
+    }
+    println!(rt; "bit 130: {:?}, all: {}", row.bit(130), row.all())?;
+    let full = BitRow::full(alloc, 130)?;
+    println!(rt;
+        "of a full row {} are set, all: {}",
+        full.ones(),
+        full.all()
+    )?;
+    Ok(())
+}
+
+pub fn samples(rt: &impl Print, alloc: Global) -> Result<(), Failed> {
+    for case in PAIRS {
+        pair(rt, alloc, case)?;
+    }
+    read(rt, alloc)
+}

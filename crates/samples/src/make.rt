@@ -1,0 +1,167 @@
+//! Values, tables, tasks and trees from short descriptions.
+
+use crate::fault::Failed;
+use predicate_core::Pred;
+use query_core::{Agg, Node, Query};
+use sqlite_items::{Boxed, Items};
+use std::alloc::Global;
+use table_core::{AggSet, Column, Table, TaskParts, Tuple};
+use value_core::{ColType, Value, Word, read_int};
+
+/// The value of a word: NULL where it is a dash, a number where it spells one, else the text.
+pub fn value(alloc: Global, word: &str) -> Result<Value, Failed> {
+    if word == "-" {
+        return Ok(Value::Null);
+    }
+    match read_int(word.as_bytes()) {
+        Some(number) => Ok(Value::Int(number)),
+        None => Ok(Value::Text(Word::of(alloc, word.as_bytes())?)),
+    }
+}
+
+/// The values of a line's words.
+pub fn values(alloc: Global, line: &str) -> Result<Vec<Value>, Failed> {
+    let mut values = Vec::new(alloc);
+    for word in line.split_whitespace() {
+        values.push(value(alloc, word)?)?;
+    }
+    Ok(values)
+}
+
+/// The row of a line's words.
+pub fn row(alloc: Global, line: &str) -> Result<Tuple, Failed> {
+    Ok(Tuple::of(values(alloc, line)?))
+}
+
+// A column of numbers where its name ends in `#`, which is no part of it, else of texts.
+fn column(alloc: Global, word: &str) -> Result<Column, Failed> {
+    let (name, kind) = match word.strip_suffix('#') {
+        Some(name) => (name, ColType::Int),
+        None => (word, ColType::Text),
+    };
+    let name = Word::of(alloc, name.as_bytes())?;
+    Ok(Column { name, kind })
+}
+
+fn columns(alloc: Global, line: &str) -> Result<Vec<Column>, Failed> {
+    let mut columns = Vec::new(alloc);
+    for word in line.split_whitespace() {
+        columns.push(column(alloc, word)?)?;
+    }
+    Ok(columns)
+}
+
+/// The table of a text's lines: the words of the first name its columns, and each other line is a row.
+pub fn table(alloc: Global, name: &str, text: &str) -> Result<Table, Failed> {
+    let name = Word::of(alloc, name.as_bytes())?;
+    let mut lines = text.lines();
+    let columns = columns(alloc, lines.next().unwrap_or(""))?;
+    let mut table = Table::new(alloc, name, columns);
+    for line in lines {
+        table.push_row(row(alloc, line)?)?;
+    }
+    Ok(table)
+}
+
+/// What a task is made of: its inputs, each with its name, the output, the constants, the aggregates, and the numbers of
+/// operators, leaves, atoms, queries that are shown, and the budget.
+#[derive(Clone, Copy, Debug)]
+pub struct Shape {
+    pub inputs: &'static [(&'static str, &'static str)],
+    pub output: &'static str,
+    pub constants: &'static str,
+    pub aggregates: AggSet,
+    pub numbers: [u32; 5],
+}
+
+impl Shape {
+    /// The least task.
+    pub const LEAST: Shape = Shape {
+        inputs: &[("t", "a#")],
+        output: "a#",
+        constants: "",
+        aggregates: AggSet::NONE,
+        numbers: [0, 1, 1, 1, 1],
+    };
+}
+
+fn inputs(alloc: Global, inputs: &[(&str, &str)]) -> Result<Items<Table>, Failed> {
+    let mut tables = Items::new(alloc);
+    for (name, text) in inputs {
+        tables.push(table(alloc, name, text)?)?;
+    }
+    Ok(tables)
+}
+
+/// The parts of a task.
+pub fn parts(alloc: Global, shape: &Shape) -> Result<TaskParts, Failed> {
+    let [ops, leaves, atoms, show, budget] = shape.numbers;
+    Ok(TaskParts {
+        inputs: inputs(alloc, shape.inputs)?,
+        output: table(alloc, "output", shape.output)?,
+        constants: Items::from_vec(values(alloc, shape.constants)?),
+        aggregates: shape.aggregates,
+        ops,
+        leaves,
+        atoms,
+        show,
+        budget: u64::from(budget),
+    })
+}
+
+/// A tree that a constant can hold.
+#[derive(Debug)]
+pub enum Tree {
+    Base(u32),
+    Filter(&'static Tree, Pred),
+    Join(&'static Tree, &'static Tree, Pred),
+    Left(&'static Tree, &'static Tree, Pred),
+    Group(&'static Tree, &'static [usize], Agg),
+    UnionAll(&'static Tree, &'static Tree),
+    Union(&'static Tree, &'static Tree),
+}
+
+/// The tree of a constant.
+pub fn node(alloc: Global, tree: &Tree) -> Result<Node, Failed> {
+    match tree {
+        Tree::Base(table) => Ok(Node::Base(*table)),
+        Tree::Filter(child, pred) => {
+            let child = Boxed::new(alloc, node(alloc, child)?)?;
+            Ok(Node::Filter(child, *pred))
+        }
+        Tree::Join(left, right, pred) => {
+            let left = Boxed::new(alloc, node(alloc, left)?)?;
+            let right = Boxed::new(alloc, node(alloc, right)?)?;
+            Ok(Node::Join(left, right, *pred))
+        }
+        Tree::Left(left, right, pred) => {
+            let left = Boxed::new(alloc, node(alloc, left)?)?;
+            let right = Boxed::new(alloc, node(alloc, right)?)?;
+            Ok(Node::Left(left, right, *pred))
+        }
+        Tree::Group(child, keys, agg) => {
+            let child = Boxed::new(alloc, node(alloc, child)?)?;
+            let keys = Items::from_slice(alloc, keys)?;
+            Ok(Node::Group(child, keys, *agg))
+        }
+        Tree::UnionAll(left, right) => {
+            let left = Boxed::new(alloc, node(alloc, left)?)?;
+            let right = Boxed::new(alloc, node(alloc, right)?)?;
+            Ok(Node::UnionAll(left, right))
+        }
+        Tree::Union(left, right) => {
+            let left = Boxed::new(alloc, node(alloc, left)?)?;
+            let right = Boxed::new(alloc, node(alloc, right)?)?;
+            Ok(Node::Union(left, right))
+        }
+    }
+}
+
+/// The query of a tree that gives these columns.
+pub fn query(alloc: Global, tree: &Tree, map: &[usize], distinct: bool) -> Result<Query, Failed> {
+    Ok(Query {
+        body: node(alloc, tree)?,
+        map: Items::from_slice(alloc, map)?,
+        distinct,
+    })
+}
