@@ -32,16 +32,15 @@ fn joined(rt: &impl Print, alloc: Global, a: &BitRow, b: &BitRow) -> Result<(), 
     Ok(())
 }
 
-// Whether two rows give the same in the place of a third as by themselves.
+// The same in the place of another row.
 fn joined_in_place(rt: &impl Print, alloc: Global, a: &BitRow, b: &BitRow) -> Result<(), Failed>
     requires { length a.now ≡ length b.now }
 {
-    let mut row = b.copy(alloc)?;
-    row.set_or(a, b);
-    let either = row.equal(&a.or(alloc, b)?);
-    row.set_and(a, b);
-    let both = row.equal(&a.and(alloc, b)?);
-    println!(rt; "the same in place: {both}, {either}")?;
+    let mut both = a.copy(alloc)?;
+    both.set_and(a, b);
+    let mut either = a.copy(alloc)?;
+    either.set_or(a, b);
+    println!(rt; "in place {} and {}", both.ones(), either.ones())?;
     Ok(())
 }
 

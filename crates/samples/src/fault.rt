@@ -1,3 +1,4 @@
+use query_core::QueryFault;
 use std::alloc::{AllocError, AllocFailed};
 use std::io;
 use table_core::{BadPart, PushFault};
@@ -38,6 +39,12 @@ impl From<io::Error> for Failed {
 
 impl From<WordFault> for Failed {
     fn from(_fault: WordFault) -> Failed {
+        Failed::BadSample
+    }
+}
+
+impl From<QueryFault> for Failed {
+    fn from(_fault: QueryFault) -> Failed {
         Failed::BadSample
     }
 }

@@ -4,11 +4,20 @@
 mod bits;
 mod classes;
 mod fault;
+mod holes;
+mod keys;
+mod lists;
 mod make;
+mod maps;
 mod predicates;
+mod queries;
 mod records;
+mod search;
+mod shapes;
 mod show;
+mod steps;
 mod tables;
+mod trees;
 mod values;
 
 use fault::Failed;
@@ -21,5 +30,14 @@ fn main(rt: HostRuntime) -> Result<(), Failed> {
     bits::samples(&rt, alloc)?;
     classes::samples(&rt, alloc)?;
     tables::samples(&rt, alloc)?;
+    trees::samples(&rt, alloc)?;
+    lists::samples(&rt, alloc)?;
+    steps::samples(&rt, alloc)?;
+    keys::samples(&rt, alloc)?;
+    holes::samples(&rt, alloc)?;
+    shapes::samples(&rt, alloc)?;
+    maps::samples(&rt, alloc)?;
+    queries::samples(&rt, alloc)?;
+    search::samples(&rt, alloc)?;
     Ok(())
 }

@@ -35,11 +35,11 @@ pub fn row(alloc: Global, line: &str) -> Result<Tuple, Failed> {
 
 // A column of numbers where its name ends in `#`, which is no part of it, else of texts.
 fn column(alloc: Global, word: &str) -> Result<Column, Failed> {
-    let (name, kind) = match word.strip_suffix('#') {
-        Some(name) => (name, ColType::Int),
-        None => (word, ColType::Text),
+    let (name, kind) = match word.as_bytes().split_last() {
+        Some((b'#', name)) => (name, ColType::Int),
+        _ => (word.as_bytes(), ColType::Text),
     };
-    let name = Word::of(alloc, name.as_bytes())?;
+    let name = Word::of(alloc, name)?;
     Ok(Column { name, kind })
 }
 
@@ -65,7 +65,7 @@ pub fn table(alloc: Global, name: &str, text: &str) -> Result<Table, Failed> {
 
 /// What a task is made of: its inputs, each with its name, the output, the constants, the aggregates, and the numbers of
 /// operators, leaves, atoms, queries that are shown, and the budget.
-#[derive(Clone, Copy, Debug)]
+#[derive(Clone, Copy)]
 pub struct Shape {
     pub inputs: &'static [(&'static str, &'static str)],
     pub output: &'static str,
@@ -110,7 +110,6 @@ pub fn parts(alloc: Global, shape: &Shape) -> Result<TaskParts, Failed> {
 }
 
 /// A tree that a constant can hold.
-#[derive(Debug)]
 pub enum Tree {
     Base(u32),
     Filter(&'static Tree, Pred),

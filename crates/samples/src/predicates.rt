@@ -1,14 +1,17 @@
 //! Atoms, predicates and their numbers.
 
 use crate::fault::Failed;
+use crate::make::values;
 use predicate_core::{Atom, Pred, PredList, atom_count, atoms, has_constant, keeps, preds, truth};
 use sqlite_items::Items;
 use std::alloc::Global;
 use value_core::{CmpOp, ColType, OutOfMemory, Value};
 
 // The atoms over two columns of numbers and one number.
-fn number_atoms(alloc: Global) -> Result<Items<Atom>, OutOfMemory> {
-    atoms(alloc, &[ColType::Int, ColType::Int], &[Value::Int(7)])
+fn number_atoms(alloc: Global) -> Result<Items<Atom>, Failed> {
+    let constants = values(alloc, "7")?;
+    let types = [ColType::Int, ColType::Int];
+    Ok(atoms(alloc, &types, constants.as_slice())?)
 }
 
 // Each of these atoms.
@@ -84,12 +87,10 @@ const PREDS: &[Pred] = &[
     Pred::Or3(NO, UNKNOWN, YES),
 ];
 
-// A predicate on the row of NULL and 7, where the only constant is 7.
-fn judged(rt: &impl Print, pred: &Pred) -> Result<(), Failed> {
-    let row = [Value::Null, Value::Int(7)];
-    let constants = [Value::Int(7)];
-    let truth = truth(pred, &row, &constants);
-    let kept = keeps(pred, &row, &constants);
+// What a predicate says of a row.
+fn judged(rt: &impl Print, pred: &Pred, row: &[Value], constants: &[Value]) -> Result<(), Failed> {
+    let truth = truth(pred, row, constants);
+    let kept = keeps(pred, row, constants);
     println!(rt; "{pred:?}: {truth:?}, kept: {kept}")?;
     Ok(())
 }
@@ -116,8 +117,10 @@ pub fn samples(rt: &impl Print, alloc: Global) -> Result<(), Failed> {
         3,
         &[9_000_002_000, 9_000_002_001],
     )?;
+    let row = values(alloc, "- 7")?;
+    let constants = values(alloc, "7")?;
     for pred in PREDS {
-        judged(rt, pred)?;
+        judged(rt, pred, row.as_slice(), constants.as_slice())?;
         counted(rt, pred)?;
     }
     Ok(())

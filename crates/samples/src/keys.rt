@@ -1,0 +1,94 @@
+//! The keys of queries, and answers in the order of their keys.
+
+use crate::fault::Failed;
+use crate::make::{Shape, Tree, parts, query};
+use predicate_core::{Atom, Pred};
+use rank_core::{Ranked, before, key, key_order, sort};
+use std::alloc::Global;
+use table_core::TaskParts;
+use value_core::CmpOp;
+
+const SHAPE: Shape = Shape {
+    constants: "7",
+    ..Shape::LEAST
+};
+
+// The number of a skeleton, a tree, a map, a flag and the numbers of predicates.
+type Case = (u32, Tree, &'static [usize], bool, &'static [u64]);
+
+const BASE: &Tree = &Tree::Base(0);
+
+const IS_NULL: Atom = Atom::IsNull(0);
+
+const IS_SEVEN: Atom = Atom::Const(0, CmpOp::Eq, 0);
+
+// Answers out of the order of their keys; those of the last two are equal.
+const CASES: &[Case] = &[
+    (0, Tree::Filter(BASE, Pred::One(IS_NULL)), &[0], true, &[1]),
+    (
+        0,
+        Tree::Filter(BASE, Pred::And2(IS_NULL, IS_NULL)),
+        &[0],
+        false,
+        &[1],
+    ),
+    (0, Tree::Filter(BASE, Pred::One(IS_NULL)), &[0], false, &[1]),
+    (0, Tree::Filter(BASE, Pred::Always), &[0], true, &[0]),
+    (0, Tree::Filter(BASE, Pred::Always), &[0], false, &[0]),
+    (1, Tree::Base(0), &[0], false, &[]),
+    (0, Tree::Base(1), &[1], false, &[]),
+    (
+        0,
+        Tree::Filter(BASE, Pred::Or2(IS_NULL, IS_SEVEN)),
+        &[0],
+        false,
+        &[2],
+    ),
+    (
+        1,
+        Tree::Filter(BASE, Pred::One(IS_SEVEN)),
+        &[0],
+        false,
+        &[1],
+    ),
+    (0, Tree::Base(2), &[0, 1], false, &[]),
+    (0, Tree::Base(3), &[0, 1], false, &[]),
+];
+
+fn ranked(alloc: Global, task: &TaskParts, case: &Case) -> Result<Ranked, Failed> {
+    let query = query(alloc, &case.1, case.2, case.3)?;
+    let key = key(alloc, task, case.0, &query, case.4)?;
+    Ok(Ranked { key, query })
+}
+
+// The answers of the cases in the order of their keys.
+fn sorted(alloc: Global) -> Result<Vec<Ranked>, Failed> {
+    let task = parts(alloc, &SHAPE)?;
+    let mut list = Vec::new(alloc);
+    for case in CASES {
+        list.push(ranked(alloc, &task, case)?)?;
+    }
+    sort(&mut list)?;
+    Ok(list)
+}
+
+// An answer's key, and how it stands to the one before it.
+fn shown(rt: &impl Print, last: &Ranked, next: &Ranked) -> Result<(), Failed> {
+    let order = key_order(&last.key, &next.key);
+    let is_before = before(&last.key, &next.key);
+    println!(rt; "{order:?}, {is_before}: {:?}", next.key)?;
+    println!(rt; "  {:?}", next.query.body)?;
+    Ok(())
+}
+
+pub fn samples(rt: &impl Print, alloc: Global) -> Result<(), Failed> {
+    let list = sorted(alloc)?;
+    let Some(mut last) = list.first() else {
+        return Err(Failed::BadSample);
+    };
+    for next in list.as_slice() {
+        shown(rt, last, next)?;
+        last = next;
+    }
+    Ok(())
+}

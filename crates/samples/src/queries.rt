@@ -1,0 +1,97 @@
+//! Queries in SQL.
+
+use crate::fault::Failed;
+use crate::make::{Shape, Tree, parts, query};
+use crate::show::text;
+use predicate_core::{Atom, Pred};
+use query_core::Agg;
+use sql_print::sql;
+use std::alloc::Global;
+use table_core::Task;
+use value_core::CmpOp;
+
+// Two tables, one of them with quotes in its names.
+const SHAPE: Shape = Shape {
+    inputs: &[("t", "id# v"), ("o\"k", "\"n# it's")],
+    output: "a b",
+    constants: "2 it's",
+    ..Shape::LEAST
+};
+
+const PLAIN: &Tree = &Tree::Base(0);
+
+const QUOTED: &Tree = &Tree::Base(1);
+
+const IS_TWO: Atom = Atom::Const(0, CmpOp::Eq, 0);
+
+const NOT_TEXT: Atom = Atom::Const(1, CmpOp::Ne, 1);
+
+const IS_NULL: Atom = Atom::IsNull(1);
+
+const NOT_NULL: Atom = Atom::NotNull(0);
+
+const IN_ORDER: Atom = Atom::Cols(0, CmpOp::Le, 1);
+
+const SAME: Pred = Pred::One(Atom::Cols(0, CmpOp::Eq, 2));
+
+// A tree, a map and whether the query is distinct.
+const CASES: &[(Tree, [usize; 2], bool)] = &[
+    (Tree::Filter(PLAIN, Pred::One(NOT_TEXT)), [0, 1], false),
+    (
+        Tree::Filter(PLAIN, Pred::And2(IS_TWO, IN_ORDER)),
+        [0, 1],
+        false,
+    ),
+    (
+        Tree::Filter(PLAIN, Pred::Or3(IS_TWO, IS_NULL, NOT_NULL)),
+        [0, 1],
+        false,
+    ),
+    (Tree::Base(1), [0, 1], true),
+    (
+        Tree::Filter(&Tree::Filter(PLAIN, Pred::One(IS_TWO)), Pred::One(IS_NULL)),
+        [0, 1],
+        false,
+    ),
+    (Tree::Join(PLAIN, QUOTED, SAME), [0, 3], false),
+    (
+        Tree::Left(
+            PLAIN,
+            &Tree::Join(PLAIN, QUOTED, Pred::Always),
+            Pred::Always,
+        ),
+        [0, 5],
+        false,
+    ),
+    (Tree::Group(PLAIN, &[1], Agg::Max(0)), [1, 0], false),
+    (
+        Tree::Group(PLAIN, &[], Agg::CountDistinct(1)),
+        [0, 0],
+        false,
+    ),
+    (Tree::Union(PLAIN, QUOTED), [0, 1], false),
+    (Tree::UnionAll(QUOTED, PLAIN), [1, 1], true),
+];
+
+// The SQL of a query's copy.
+fn printed(
+    rt: &impl Print,
+    alloc: Global,
+    task: &Task,
+    tree: &Tree,
+    map: &[usize],
+    distinct: bool,
+) -> Result<(), Failed> {
+    let query = query(alloc, tree, map, distinct)?.copy(alloc)?;
+    let bytes = sql(alloc, task, &query)?;
+    println!(rt; "{}", text(bytes.as_slice()))?;
+    Ok(())
+}
+
+pub fn samples(rt: &impl Print, alloc: Global) -> Result<(), Failed> {
+    let task = Task::new(parts(alloc, &SHAPE)?)?;
+    for (tree, map, distinct) in CASES {
+        printed(rt, alloc, &task, tree, map, *distinct)?;
+    }
+    Ok(())
+}

@@ -1,0 +1,99 @@
+//! The types of a tree's columns, or what is wrong with it.
+
+use crate::fault::Failed;
+use crate::make::{Shape, Tree, node, parts, table};
+use predicate_core::{Atom, Pred};
+use query_core::{
+    Agg, columns, group_types, input_types, names_columns, names_inputs, node_types, picked_types,
+    table_types, types_agree,
+};
+use std::alloc::Global;
+use table_core::TaskParts;
+use value_core::CmpOp;
+
+const SHAPE: Shape = Shape {
+    inputs: &[("l", "k n#"), ("r", "k")],
+    constants: "2",
+    ..Shape::LEAST
+};
+
+const LEFT: &Tree = &Tree::Base(0);
+
+const RIGHT: &Tree = &Tree::Base(1);
+
+const SAME: Pred = Pred::One(Atom::Cols(0, CmpOp::Eq, 2));
+
+// The last three have a leaf that names no input before a column that isn't there, and that before types that differ.
+const TREES: &[Tree] = &[
+    Tree::Filter(LEFT, Pred::One(Atom::Const(1, CmpOp::Eq, 0))),
+    Tree::Filter(LEFT, Pred::One(Atom::Const(0, CmpOp::Eq, 0))),
+    Tree::Filter(LEFT, Pred::One(Atom::Cols(0, CmpOp::Lt, 1))),
+    Tree::Filter(LEFT, Pred::One(Atom::Const(1, CmpOp::Eq, 1))),
+    Tree::Filter(LEFT, Pred::One(Atom::IsNull(2))),
+    Tree::Group(LEFT, &[0], Agg::Sum(1)),
+    Tree::Group(LEFT, &[1, 0], Agg::Max(0)),
+    Tree::Group(LEFT, &[], Agg::CountDistinct(0)),
+    Tree::Group(LEFT, &[], Agg::Sum(0)),
+    Tree::Group(LEFT, &[2], Agg::CountAll),
+    Tree::Join(LEFT, RIGHT, SAME),
+    Tree::Left(RIGHT, LEFT, SAME),
+    Tree::UnionAll(RIGHT, RIGHT),
+    Tree::Union(
+        &Tree::Filter(LEFT, Pred::One(Atom::NotNull(2))),
+        &Tree::Base(2),
+    ),
+    Tree::Union(&Tree::Filter(LEFT, Pred::One(Atom::NotNull(2))), RIGHT),
+    Tree::Union(&Tree::Filter(LEFT, Pred::One(Atom::NotNull(1))), RIGHT),
+];
+
+// The types of a tree's columns, or the first thing that is wrong with it.
+fn typed(rt: &impl Print, alloc: Global, task: &TaskParts, tree: &Tree) -> Result<(), Failed> {
+    let node = node(alloc, tree)?.copy(alloc)?;
+    match columns(alloc, task, &node) {
+        Ok(types) => println!(rt; "{node:?}: {:?}", types.as_slice())?,
+        Err(fault) => println!(rt; "{node:?}: {fault:?}")?,
+    }
+    Ok(())
+}
+
+// Which of the three things are right with a tree.
+fn checked(rt: &impl Print, alloc: Global, task: &TaskParts, tree: &Tree) -> Result<(), Failed> {
+    let node = node(alloc, tree)?.boxed(alloc)?;
+    let inputs = names_inputs(task, node.get());
+    let columns = names_columns(alloc, task, node.get())?;
+    let types = types_agree(alloc, task, node.get())?;
+    println!(rt; "  inputs: {inputs}, columns: {columns}, types: {types}")?;
+    Ok(())
+}
+
+// The types of a table's columns, and of what is made of them.
+fn types(rt: &impl Print, alloc: Global) -> Result<(), Failed> {
+    let table = table(alloc, "t", "k n#")?;
+    let types = table_types(alloc, &table)?;
+    println!(rt; "table: {:?}", types.as_slice())?;
+    let picked = picked_types(alloc, types.as_slice(), &[1, 0, 1])?;
+    println!(rt; "picked: {:?}", picked.as_slice())?;
+    let grouped = group_types(alloc, types.as_slice(), &[0], &Agg::Min(1))?;
+    println!(rt; "grouped: {:?}", grouped.as_slice())?;
+    Ok(())
+}
+
+// The types of an input's columns, and of a tree's.
+fn types_in(rt: &impl Print, alloc: Global, task: &TaskParts) -> Result<(), Failed> {
+    let input = input_types(alloc, task, 1)?;
+    println!(rt; "input: {:?}", input.as_slice())?;
+    let tree = node(alloc, &TREES[10])?;
+    let types = node_types(alloc, task, &tree)?;
+    println!(rt; "tree: {:?}", types.as_slice())?;
+    Ok(())
+}
+
+pub fn samples(rt: &impl Print, alloc: Global) -> Result<(), Failed> {
+    let task = parts(alloc, &SHAPE)?;
+    for tree in TREES {
+        typed(rt, alloc, &task, tree)?;
+        checked(rt, alloc, &task, tree)?;
+    }
+    types(rt, alloc)?;
+    types_in(rt, alloc, &task)
+}
