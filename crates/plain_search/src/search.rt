@@ -17,7 +17,7 @@ const MOST_SKELETONS: usize = 100_000;
 pub fn few(alloc: Global, task: &Task) -> Result<bool, OutOfMemory>
     ensures { IfOk result (λ b. b ≡ nat_le (length (skeletons task.now)) 100000) }
 {
-    let listed = skeletons(alloc, task.parts(), MOST_SKELETONS)?;
+    let listed = skeletons(alloc, task, MOST_SKELETONS)?;
     Ok(listed.is_some())
 }
 
@@ -26,10 +26,10 @@ fn listed(alloc: Global, task: &Task) -> Result<Vec<Ranked>, OutOfMemory>
     requires small { length (skeletons task.now) ≤ 100000 }
     ensures { IfOk result (λ list. map ranked_query list.items ≡ map (ranked task.now) (found task.now)) }
 {
-    let Some(nodes) = skeletons(alloc, task.parts(), MOST_SKELETONS)? else {
-        return Err(OutOfMemory);
-    };
-    found(alloc, task, nodes.as_slice())
+    match skeletons(alloc, task, MOST_SKELETONS)? {
+        Some(nodes) => found(alloc, task, nodes.as_slice()),
+        None => unreachable!(),
+    }
 }
 
 /// The answers of a task, best first.

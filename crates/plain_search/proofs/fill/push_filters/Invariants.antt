@@ -6,5 +6,5 @@ use Rattle.plain_search.proofs.fill.push_filters.Given as goal
 
 abbrev pub invariant-loop-choice : goal.invariant-loop-choice
 invariant-loop-choice l =
-    map filled l.out ++ flat_map (filter_on l.task (filled l.child)) (drop l.choice-index l.choice-items)
-    ≡ map filled l.initial.out ++ flat_map (filter_on l.task (filled l.child)) l.choice-items
+    map filled l.out ++ flat_map (filter_on l.task.constants (filled l.child)) (drop l.choice-index l.choice-items)
+    ≡ map filled l.initial.out ++ flat_map (filter_on l.task.constants (filled l.child)) l.choice-items

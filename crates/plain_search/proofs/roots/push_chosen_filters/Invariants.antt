@@ -8,5 +8,5 @@ use Rattle.plain_search.proofs.roots.push_chosen_filters.Given as goal
 
 abbrev pub invariant-loop-choice : goal.invariant-loop-choice
 invariant-loop-choice l =
-    map ranked_query l.out.items ++ flat_map (kept_on l.task l.skeleton) (flat_map (filter_on l.task (filled l.child)) (drop l.choice-index l.choices))
-    ≡ map ranked_query l.initial.out.items ++ flat_map (kept_on l.task l.skeleton) (flat_map (filter_on l.task (filled l.child)) l.choices)
+    map ranked_query l.out.items ++ flat_map (kept_on l.task l.skeleton) (flat_map (filter_on l.task.constants (filled l.child)) (drop l.choice-index l.choices))
+    ≡ map ranked_query l.initial.out.items ++ flat_map (kept_on l.task l.skeleton) (flat_map (filter_on l.task.constants (filled l.child)) l.choices)

@@ -8,5 +8,5 @@ use Rattle.plain_search.proofs.roots.push_chosen_pairs.Given as goal
 
 abbrev pub invariant-loop-choice : goal.invariant-loop-choice
 invariant-loop-choice l =
-    map ranked_query l.out.items ++ flat_map (kept_on l.task l.skeleton) (map (pair_filled l.task l.kind (filled l.a) (filled l.b)) (drop l.choice-index l.choices))
-    ≡ map ranked_query l.initial.out.items ++ flat_map (kept_on l.task l.skeleton) (map (pair_filled l.task l.kind (filled l.a) (filled l.b)) l.choices)
+    map ranked_query l.out.items ++ flat_map (kept_on l.task l.skeleton) (map (pair_filled l.task.constants l.kind (filled l.a) (filled l.b)) (drop l.choice-index l.choices))
+    ≡ map ranked_query l.initial.out.items ++ flat_map (kept_on l.task l.skeleton) (map (pair_filled l.task.constants l.kind (filled l.a) (filled l.b)) l.choices)
