@@ -3,6 +3,7 @@ use Rattle.std.specs.Prelude.{ℕ, ◌+◌, Bool, true, not, ◌&&◌, ◌||◌,
 use Rattle.std.specs.List.{list_all, list_any}
 use Rattle.std.specs.Cmp.Lexicographic.{pointwise}
 use Rattle.csv_records.specs.Records.{records_of}
+use Rattle.value_core.specs.declared.word.TheConstants.{LONGEST_WORD}
 use Rattle.value_core.specs.declared.value.Value.{Value}
 use Rattle.value_core.specs.declared.value.Value.TheVariants.{Null, Int, Text}
 use Rattle.value_core.specs.declared.value.ColType.{ColType}
@@ -38,9 +39,9 @@ Fields = List (List ℕ)
 abbrev pub field_at : Fields → ℕ → List ℕ
 field_at fields at = unwrap_or (slice_get fields at) []
 
--- a word of 1 to 64 bytes
+-- a word, where the bytes are neither too few nor too many for one
 abbrev pub word_of : List ℕ → Option (List ℕ)
-word_of bytes = when (nat_lt 0 (length bytes) && nat_le (length bytes) 64) bytes
+word_of bytes = when (nat_lt 0 (length bytes) && nat_le (length bytes) LONGEST_WORD) bytes
 
 -- whether a name is one of the earlier ones
 abbrev pub is_repeated : List (List ℕ) → List ℕ → Bool

@@ -61,7 +61,7 @@ pub(crate) fn columns_of(
             name: name.copy(alloc)?,
             kind: kind_of(at, rows),
         };
-        columns.push(column).map_err(|_| OutOfMemory)?;
+        columns.push(column)?;
     }
     Ok(columns)
 }

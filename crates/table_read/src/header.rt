@@ -38,7 +38,7 @@ pub(crate) fn names_of(
     let mut names = Vec::new(alloc);
     for at in 0..header.len() {
         match name_of(alloc, names.as_slice(), field(header, at))? {
-            Some(name) => names.push(name).map_err(|_| OutOfMemory)?,
+            Some(name) => names.push(name)?,
             None => return Ok(None),
         }
     }

@@ -49,7 +49,7 @@ pub fn read_table(
     if !is_text(bytes) {
         return Ok(None);
     }
-    let records = read_records(alloc, bytes).map_err(|_| OutOfMemory)?;
+    let records = read_records(alloc, bytes)?;
     match records.as_slice().split_first() {
         Some((header, rows)) => table_under(alloc, name, widest, longest, header, rows),
         None => Ok(None),

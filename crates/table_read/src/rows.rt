@@ -26,7 +26,7 @@ fn row_of(alloc: Global, columns: &[Column], row: &Record) -> Result<Option<Tupl
     let mut cells = Vec::new(alloc);
     for (at, column) in columns.iter().enumerate() {
         match cell_of(alloc, column.kind, field(row, at))? {
-            Some(cell) => cells.push(cell).map_err(|_| OutOfMemory)?,
+            Some(cell) => cells.push(cell)?,
             None => return Ok(None),
         }
     }
@@ -44,7 +44,7 @@ pub(crate) fn tuples_of(
     let mut tuples = Vec::new(alloc);
     for row in rows {
         match row_of(alloc, columns, row)? {
-            Some(tuple) => tuples.push(tuple).map_err(|_| OutOfMemory)?,
+            Some(tuple) => tuples.push(tuple)?,
             None => return Ok(None),
         }
     }
