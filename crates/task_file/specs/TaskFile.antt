@@ -1,5 +1,5 @@
 -- The task file.
-use Rattle.std.specs.Prelude.{ℕ, Bool, true, not, ◌&&◌, List, [], ◌∷◌, map, codes, Option, Some, None, option_map}
+use Rattle.std.specs.Prelude.{ℕ, Bool, true, not, ◌&&◌, List, [], ◌∷◌, length, map, codes, Option, Some, None, option_map}
 use Rattle.std.specs.List.{list_any}
 use Rattle.std.specs.Option.{option_or}
 use Rattle.std.specs.Str.{bytes_eq}
@@ -8,40 +8,16 @@ use Rattle.toml_keys.specs.Keys.{◌>>=◌, when, document_of, number_or, text_o
 use Rattle.value_core.specs.declared.value.Value.{Value}
 use Rattle.value_core.specs.declared.value.Value.TheVariants.{Int, Text}
 use Rattle.value_core.specs.Value.{same}
+use Rattle.value_core.specs.declared.word.TheConstants.{LONGEST_WORD}
+use Rattle.table_core.specs.declared.limits.TheConstants.{LONGEST_FILE_NAME, MOST_ATOMS, MOST_CONSTANTS, MOST_INPUTS, MOST_LEAVES, MOST_OPS}
 use Rattle.table_core.specs.declared.agg_set.AggSet.{AggSet}
 use Rattle.task_file.specs.declared.input.InputFile.{InputFile}
 use Rattle.task_file.specs.declared.task.TaskFile.{TaskFile}
-
--- the most inputs, and the most constants
-abbrev pub most_inputs : ℕ
-most_inputs = 4
-
-abbrev pub most_constants : ℕ
-most_constants = 6
+use Rattle.task_file.specs.declared.task.TheConstants.{DEFAULT_NUMBER}
 
 -- the names of the aggregates
 abbrev pub aggregate_names : List (List ℕ)
 aggregate_names = codes "count(*)" ∷ codes "count" ∷ codes "count distinct" ∷ codes "sum" ∷ codes "min" ∷ codes "max" ∷ []
-
--- the most bytes of a name or a text, and of a file's name
-abbrev pub longest_word : ℕ
-longest_word = 64
-
-abbrev pub longest_file : ℕ
-longest_file = 255
-
--- the largest `ops`, `leaves` and `atoms`, and what each is where its key is absent
-abbrev pub most_ops : ℕ
-most_ops = 4
-
-abbrev pub most_leaves : ℕ
-most_leaves = 3
-
-abbrev pub most_atoms : ℕ
-most_atoms = 3
-
-abbrev pub default_number : ℕ
-default_number = 2
 
 -- the keys at the top, of an input and of the output
 abbrev pub task_keys : List (List ℕ)
@@ -64,14 +40,14 @@ unfoldable pub input_of : Data → Option InputFile
 input_of value = do
   table ← as_table value
   known ← with_only input_keys table
-  name ← text_at (codes "name") longest_word known
-  file ← text_at (codes "file") longest_file known
+  name ← text_at (codes "name") LONGEST_WORD known
+  file ← text_at (codes "file") LONGEST_FILE_NAME known
   Some (record { name = name; file = file })
 
 -- the inputs, in the file's order
 unfoldable pub inputs_of : Members → Option (List InputFile)
 inputs_of members = do
-  items ← array_at (codes "input") 1 most_inputs members
+  items ← array_at (codes "input") 1 MOST_INPUTS members
   all_some (map input_of items)
 
 -- the output: a table of a file
@@ -79,11 +55,11 @@ unfoldable pub output_of : Members → Option (List ℕ)
 output_of members = do
   table ← table_at (codes "output") members
   known ← with_only output_keys table
-  text_at (codes "file") longest_file known
+  text_at (codes "file") LONGEST_FILE_NAME known
 
 -- a constant: a whole number or a text
 unfoldable pub constant_of : Data → Option Value
-constant_of value = option_or (option_map Int (as_integer value)) (option_map Text (text_of longest_word value))
+constant_of value = option_or (option_map Int (as_integer value)) (option_map Text (text_of LONGEST_WORD value))
 
 -- no two of a list are the same by this test
 abbrev pub all_distinct : {A : Type 0} → (A → A → Bool) → List A → Bool
@@ -93,7 +69,7 @@ all_distinct alike (x ∷ others) = not (list_any (alike x) others) && all_disti
 -- an array of distinct constants
 unfoldable pub constant_list_of : Data → Option (List Value)
 constant_list_of value = do
-  items ← array_of 0 most_constants value
+  items ← array_of 0 MOST_CONSTANTS value
   constants ← all_some (map constant_of items)
   when (all_distinct same constants) constants
 
@@ -121,7 +97,7 @@ aggregates_named names = record {
 -- an array of distinct names of aggregates
 unfoldable pub aggregate_list_of : Data → Option AggSet
 aggregate_list_of value = do
-  items ← array_of 0 6 value
+  items ← array_of 0 (length aggregate_names) value
   names ← all_some (map aggregate_name_of items)
   when (all_distinct bytes_eq names) (aggregates_named names)
 
@@ -137,9 +113,9 @@ task_of members = do
   output ← output_of known
   constants ← constants_of known
   aggregates ← aggregates_of known
-  ops ← number_or (codes "ops") default_number 0 most_ops known
-  leaves ← number_or (codes "leaves") default_number 1 most_leaves known
-  atoms ← number_or (codes "atoms") default_number 1 most_atoms known
+  ops ← number_or (codes "ops") DEFAULT_NUMBER 0 MOST_OPS known
+  leaves ← number_or (codes "leaves") DEFAULT_NUMBER 1 MOST_LEAVES known
+  atoms ← number_or (codes "atoms") DEFAULT_NUMBER 1 MOST_ATOMS known
   Some (record { inputs = inputs; output = output; constants = constants; aggregates = aggregates; ops = ops; leaves = leaves; atoms = atoms })
 
 -- the task that a file of these bytes writes

@@ -13,6 +13,7 @@ use toml::{Table, Value};
 use toml_keys::{array_of, is_among, value_at};
 use value_core::Bytes;
 
+// As many as there are aggregates.
 const MOST_AGGREGATES: usize = 6;
 
 #[tactic(auto, unfolding(crate::specs::TaskFile::aggregate_name_of))]

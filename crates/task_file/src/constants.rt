@@ -6,14 +6,13 @@ ghost use Rattle.task_file.specs.Reading.{Reads};
 ghost use Rattle.task_file.specs.TaskFile.{all_distinct, all_some, constant_list_of, constant_of, constants_of};
 
 use crate::fault::TaskFault;
-use crate::texts::{LONGEST_WORD, word};
+use crate::texts::word;
 use sqlite_items::Items;
 use std::alloc::Global;
+use table_core::MOST_CONSTANTS;
 use toml::Table;
 use toml_keys::{array_of, text_of, value_at};
-use value_core::{Value, same};
-
-const MOST_CONSTANTS: usize = 6;
+use value_core::{LONGEST_WORD, Value, same};
 
 #[tactic(auto, unfolding(crate::specs::TaskFile::constant_of))]
 fn read_constant(alloc: Global, value: &toml::Value) -> Result<Value, TaskFault>

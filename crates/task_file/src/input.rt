@@ -7,11 +7,10 @@ use crate::fault::TaskFault;
 use crate::texts::{file_at, word_at};
 use sqlite_items::Items;
 use std::alloc::Global;
+use table_core::MOST_INPUTS;
 use toml::{Table, Value};
 use toml_keys::{array_at, has_only};
 use value_core::{Bytes, Word};
-
-const MOST_INPUTS: usize = 4;
 
 /// A table of the task: its name, and the file that holds it.
 #[derive(Debug, Drop)]

@@ -1,8 +1,8 @@
-ghost use Rattle.std.specs.Prelude.{◌≡◌, IfOk};
+ghost use Rattle.std.specs.Prelude.{◌≡◌, ◌↔◌, Ok, Err, Some, None, IfOk, IsErr};
 ghost use Rattle.toml.specs.View.{table_view};
 ghost use Rattle.toml_keys.specs.Keys.{number_or};
 ghost use Rattle.task_file.specs.Reading.{Reads};
-ghost use Rattle.task_file.specs.TaskFile.{default_number, output_of, task_file_of, task_of};
+ghost use Rattle.task_file.specs.TaskFile.{output_of, task_file_of, task_of};
 
 use crate::aggregates::read_aggregates;
 use crate::constants::read_constants;
@@ -11,18 +11,12 @@ use crate::input::{InputFile, read_inputs};
 use crate::texts::file_at;
 use sqlite_items::Items;
 use std::alloc::Global;
-use table_core::AggSet;
+use table_core::{AggSet, MOST_ATOMS, MOST_LEAVES, MOST_OPS};
 use toml::Table;
 use toml_keys::{has_only, number_or, read_document, table_at};
 use value_core::{Bytes, OutOfMemory, Value};
 
-// The largest `ops`, `leaves` and `atoms`, and what each is where its key is absent.
-const MOST_OPS: u32 = 4;
-
-const MOST_LEAVES: u32 = 3;
-
-const MOST_ATOMS: u32 = 3;
-
+// What `ops`, `leaves` and `atoms` are where the key is absent.
 const DEFAULT_NUMBER: u32 = 2;
 
 /// What a task asks for: queries over the inputs that give the output.
@@ -58,7 +52,7 @@ fn read_output(alloc: Global, table: &Table) -> Result<Bytes, TaskFault>
 }
 
 fn read_number(table: &Table, key: &str, low: u32, high: u32) -> Result<u32, TaskFault>
-    ensures { Reads result (number_or key.now default_number low high (table_view table.now)) }
+    ensures { Reads result (number_or key.now DEFAULT_NUMBER low high (table_view table.now)) }
 {
     match number_or(table, key, DEFAULT_NUMBER, low, high) {
         Some(number) => Ok(number),
@@ -102,21 +96,27 @@ fn read_task(alloc: Global, table: &Table) -> Result<TaskFile, TaskFault>
     })
 }
 
+// The task that was read, and none where the form is wrong.
+fn task_or_none(read: Result<TaskFile, TaskFault>) -> Result<Option<TaskFile>, OutOfMemory>
+    ensures task { IfOk read (λ task. result ≡ Ok (Some task)) }
+    ensures none { read ≡ Err TaskFault.WrongForm → result ≡ Ok None }
+    ensures memory { IsErr result ↔ (read ≡ Err TaskFault.OutOfMemory) }
+{
+    match read {
+        Ok(task) => Ok(Some(task)),
+        Err(TaskFault::WrongForm) => Ok(None),
+        Err(TaskFault::OutOfMemory) => Err(OutOfMemory),
+    }
+}
+
 /// The task that a file of these bytes writes, or `None` where they don't write one.
 #[tactic(auto, unfolding(crate::specs::TaskFile::task_file_of))]
 pub fn read_task_file(alloc: Global, bytes: &[u8]) -> Result<Option<TaskFile>, OutOfMemory>
     ensures { IfOk result (λ task. task ≡ task_file_of bytes.now) }
 {
-    let Ok(document) = read_document(alloc, bytes) else {
-        return Err(OutOfMemory);
-    };
-    let Some(table) = document else {
-        return Ok(None);
-    };
-    match read_task(alloc, &table) {
-        Ok(task) => Ok(Some(task)),
-        Err(TaskFault::WrongForm) => Ok(None),
-        Err(TaskFault::OutOfMemory) => Err(OutOfMemory),
+    match read_document(alloc, bytes)? {
+        Some(table) => task_or_none(read_task(alloc, &table)),
+        None => Ok(None),
     }
 }
 
