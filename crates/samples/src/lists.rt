@@ -4,11 +4,11 @@ use crate::fault::Failed;
 use crate::make::{table, values};
 use crate::show::Rows;
 use bag_eval::{
-    append_rows, cross_rows, first_rows, gives_rows, group_tuples, has_double_selected, join_pairs,
-    keep_rows, keeps_all_rows, left_join_pairs, select_rows, union_firsts,
+    cross_rows, first_rows, gives_rows, group_tuples, has_double_selected, join_pairs, keep_rows,
+    keeps_all_rows, left_join_pairs, select_rows, unite_rows,
 };
 use predicate_core::{Atom, Pred};
-use query_core::Agg;
+use query_core::{Agg, Uniting};
 use sqlite_items::Items;
 use std::alloc::Global;
 use table_core::{Table, Tuple};
@@ -23,8 +23,7 @@ enum Step {
     Join(Pred),
     LeftJoin(Pred),
     Cross,
-    Append,
-    Unite,
+    Unite(Uniting),
     Group(&'static [usize], Agg),
 }
 
@@ -43,8 +42,7 @@ fn stepped(
         Step::Join(pred) => join_pairs(alloc, ones, lefts, rights, pred)?,
         Step::LeftJoin(pred) => left_join_pairs(alloc, ones, 2, lefts, rights, pred)?,
         Step::Cross => cross_rows(alloc, lefts, rights)?,
-        Step::Append => append_rows(alloc, lefts, rights)?,
-        Step::Unite => union_firsts(alloc, lefts, rights)?,
+        Step::Unite(kind) => unite_rows(alloc, *kind, lefts, rights)?,
         Step::Group(keys, agg) => return group_tuples(alloc, keys, agg, lefts),
     };
     Ok(Some(rows))
@@ -110,8 +108,8 @@ const CASES: &[Case] = &[
     (Step::Cross, KEYS, NONE),
     (Step::Join(Pred::Always), KEYS, NONE),
     (Step::LeftJoin(Pred::Always), KEYS, NONE),
-    (Step::Append, "k\nb\n-", "k\n-\na\nb"),
-    (Step::Unite, "k\nb\n-", "k\n-\na\nb"),
+    (Step::Unite(Uniting::All), "k\nb\n-", "k\n-\na\nb"),
+    (Step::Unite(Uniting::Firsts), "k\nb\n-", "k\n-\na\nb"),
     (Step::Group(&[0], Agg::CountAll), GROUPS, NONE),
     (Step::Group(&[0], Agg::Count(1)), GROUPS, NONE),
     (Step::Group(&[0], Agg::CountDistinct(1)), GROUPS, NONE),

@@ -3,7 +3,9 @@
 
 mod bits;
 mod classes;
+mod edge;
 mod fault;
+mod files;
 mod holes;
 mod keys;
 mod lists;
@@ -11,7 +13,9 @@ mod make;
 mod maps;
 mod predicates;
 mod queries;
+mod readings;
 mod records;
+mod runs;
 mod search;
 mod shapes;
 mod show;
@@ -21,6 +25,7 @@ mod trees;
 mod values;
 
 use fault::Failed;
+use io_edge::{DiskFolder, StdSink};
 
 fn main(rt: HostRuntime) -> Result<(), Failed> {
     let alloc = rt.alloc();
@@ -39,5 +44,16 @@ fn main(rt: HostRuntime) -> Result<(), Failed> {
     maps::samples(&rt, alloc)?;
     queries::samples(&rt, alloc)?;
     search::samples(&rt, alloc)?;
+    files::samples(&rt, alloc)?;
+    edge::samples(&rt, alloc)?;
+    edge::read(
+        &rt,
+        alloc,
+        &mut DiskFolder::new(rt),
+        &["three", "four", "none"],
+    )?;
+    edge::write(&rt, &mut StdSink::new(rt.stdout()), b"abc\n")?;
+    readings::samples(&rt, alloc)?;
+    runs::samples(&rt, alloc)?;
     Ok(())
 }

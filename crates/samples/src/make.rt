@@ -2,11 +2,11 @@
 
 use crate::fault::Failed;
 use predicate_core::Pred;
-use query_core::{Agg, Node, Query};
+use query_core::{Agg, Node, Pairing, Query, Uniting};
 use sqlite_items::{Boxed, Items};
 use std::alloc::Global;
 use table_core::{AggSet, Column, Table, TaskParts, Tuple};
-use value_core::{ColType, Value, Word, read_int};
+use value_core::{Bytes, ColType, Value, Word, read_int};
 
 /// The value of a word: NULL where it is a dash, a number where it spells one, else the text.
 pub fn value(alloc: Global, word: &str) -> Result<Value, Failed> {
@@ -113,11 +113,9 @@ pub fn parts(alloc: Global, shape: &Shape) -> Result<TaskParts, Failed> {
 pub enum Tree {
     Base(u32),
     Filter(&'static Tree, Pred),
-    Join(&'static Tree, &'static Tree, Pred),
-    Left(&'static Tree, &'static Tree, Pred),
+    Pair(Pairing, &'static Tree, &'static Tree, Pred),
     Group(&'static Tree, &'static [usize], Agg),
-    UnionAll(&'static Tree, &'static Tree),
-    Union(&'static Tree, &'static Tree),
+    Unite(Uniting, &'static Tree, &'static Tree),
 }
 
 /// The tree of a constant.
@@ -128,30 +126,20 @@ pub fn node(alloc: Global, tree: &Tree) -> Result<Node, Failed> {
             let child = Boxed::new(alloc, node(alloc, child)?)?;
             Ok(Node::Filter(child, *pred))
         }
-        Tree::Join(left, right, pred) => {
+        Tree::Pair(kind, left, right, pred) => {
             let left = Boxed::new(alloc, node(alloc, left)?)?;
             let right = Boxed::new(alloc, node(alloc, right)?)?;
-            Ok(Node::Join(left, right, *pred))
-        }
-        Tree::Left(left, right, pred) => {
-            let left = Boxed::new(alloc, node(alloc, left)?)?;
-            let right = Boxed::new(alloc, node(alloc, right)?)?;
-            Ok(Node::Left(left, right, *pred))
+            Ok(Node::pair(*kind, left, right, *pred))
         }
         Tree::Group(child, keys, agg) => {
             let child = Boxed::new(alloc, node(alloc, child)?)?;
             let keys = Items::from_slice(alloc, keys)?;
             Ok(Node::Group(child, keys, *agg))
         }
-        Tree::UnionAll(left, right) => {
+        Tree::Unite(kind, left, right) => {
             let left = Boxed::new(alloc, node(alloc, left)?)?;
             let right = Boxed::new(alloc, node(alloc, right)?)?;
-            Ok(Node::UnionAll(left, right))
-        }
-        Tree::Union(left, right) => {
-            let left = Boxed::new(alloc, node(alloc, left)?)?;
-            let right = Boxed::new(alloc, node(alloc, right)?)?;
-            Ok(Node::Union(left, right))
+            Ok(Node::unite(*kind, left, right))
         }
     }
 }
@@ -163,4 +151,22 @@ pub fn query(alloc: Global, tree: &Tree, map: &[usize], distinct: bool) -> Resul
         map: Items::from_slice(alloc, map)?,
         distinct,
     })
+}
+
+/// Files, each with its name.
+pub type Files = &'static [(&'static str, &'static str)];
+
+/// A folder of these files, in memory.
+pub fn files(alloc: Global, files: Files) -> Result<Vec<(Bytes, Bytes)>, Failed> {
+    let mut out = Vec::new(alloc);
+    for (name, text) in files {
+        let name = Bytes::of(alloc, name.as_bytes())?;
+        out.push((name, Bytes::of(alloc, text.as_bytes())?))?;
+    }
+    Ok(out)
+}
+
+/// The numbers of the reads or the writes that fail: this one alone, or none where it is 0.
+pub fn fails(alloc: Global, number: u64) -> Result<Vec<u64>, Failed> {
+    Ok(Vec::from_slice(alloc, &[number])?)
 }

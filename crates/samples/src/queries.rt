@@ -4,7 +4,7 @@ use crate::fault::Failed;
 use crate::make::{Shape, Tree, parts, query};
 use crate::show::text;
 use predicate_core::{Atom, Pred};
-use query_core::Agg;
+use query_core::{Agg, Pairing, Uniting};
 use sql_print::sql;
 use std::alloc::Global;
 use table_core::Task;
@@ -53,11 +53,16 @@ const CASES: &[(Tree, [usize; 2], bool)] = &[
         [0, 1],
         false,
     ),
-    (Tree::Join(PLAIN, QUOTED, SAME), [0, 3], false),
     (
-        Tree::Left(
+        Tree::Pair(Pairing::Join, PLAIN, QUOTED, SAME),
+        [0, 3],
+        false,
+    ),
+    (
+        Tree::Pair(
+            Pairing::Left,
             PLAIN,
-            &Tree::Join(PLAIN, QUOTED, Pred::Always),
+            &Tree::Pair(Pairing::Join, PLAIN, QUOTED, Pred::Always),
             Pred::Always,
         ),
         [0, 5],
@@ -69,8 +74,8 @@ const CASES: &[(Tree, [usize; 2], bool)] = &[
         [0, 0],
         false,
     ),
-    (Tree::Union(PLAIN, QUOTED), [0, 1], false),
-    (Tree::UnionAll(QUOTED, PLAIN), [1, 1], true),
+    (Tree::Unite(Uniting::Firsts, PLAIN, QUOTED), [0, 1], false),
+    (Tree::Unite(Uniting::All, QUOTED, PLAIN), [1, 1], true),
 ];
 
 // The SQL of a query's copy.

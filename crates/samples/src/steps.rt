@@ -8,7 +8,7 @@ use bag_eval::{
     rows, union_rows,
 };
 use predicate_core::{Atom, Pred};
-use query_core::{Agg, columns, same_types, table_types};
+use query_core::{Agg, Pairing, Uniting, columns, same_types, table_types};
 use sqlite_items::Items;
 use std::alloc::Global;
 use table_core::{Table, Task, Tuple};
@@ -103,10 +103,10 @@ const TREES: &[Tree] = &[
     Tree::Group(NULL_TEXTS, &[], Agg::CountAll),
     Tree::Group(NULL_TEXTS, &[0], Agg::CountAll),
     Tree::Group(&Tree::Base(1), &[], Agg::Sum(0)),
-    Tree::Left(TEXTS, NULL_TEXTS, SAME_KEY),
-    Tree::Join(TEXTS, TEXTS, SAME_KEY),
-    Tree::UnionAll(TEXTS, TEXTS),
-    Tree::Union(TEXTS, TEXTS),
+    Tree::Pair(Pairing::Left, TEXTS, NULL_TEXTS, SAME_KEY),
+    Tree::Pair(Pairing::Join, TEXTS, TEXTS, SAME_KEY),
+    Tree::Unite(Uniting::All, TEXTS, TEXTS),
+    Tree::Unite(Uniting::Firsts, TEXTS, TEXTS),
 ];
 
 // The rows that a tree or a query gives.
@@ -124,7 +124,16 @@ fn evaluated(rt: &impl Print, alloc: Global, task: &Task, tree: &Tree) -> Result
     columns(alloc, task.parts(), &node)?;
     println!(rt; "{node:?}:")?;
     given(rt, &rows(alloc, task, &node)?)?;
-    listed(rt, node_rows(alloc, task.parts(), &node)?)
+    let task = task.parts();
+    listed(
+        rt,
+        node_rows(
+            alloc,
+            task.inputs.as_slice(),
+            task.constants.as_slice(),
+            &node,
+        )?,
+    )
 }
 
 // What a tree's query gives that has its first column twice, as a table and as rows.
@@ -132,7 +141,16 @@ fn answered(rt: &impl Print, alloc: Global, task: &Task, tree: &Tree) -> Result<
     let query = query(alloc, tree, &[0, 0], true)?;
     columns(alloc, task.parts(), &query.body)?;
     given(rt, &answer(alloc, task, &query)?)?;
-    listed(rt, query_rows(alloc, task.parts(), &query)?)
+    let task = task.parts();
+    listed(
+        rt,
+        query_rows(
+            alloc,
+            task.inputs.as_slice(),
+            task.constants.as_slice(),
+            &query,
+        )?,
+    )
 }
 
 pub fn samples(rt: &impl Print, alloc: Global) -> Result<(), Failed> {

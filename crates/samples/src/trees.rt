@@ -4,8 +4,8 @@ use crate::fault::Failed;
 use crate::make::{Shape, Tree, node, parts, table};
 use predicate_core::{Atom, Pred};
 use query_core::{
-    Agg, columns, group_types, input_types, names_columns, names_inputs, node_types, picked_types,
-    table_types, types_agree,
+    Agg, Pairing, Uniting, columns, group_types, input_types, names_columns, names_inputs,
+    node_types, picked_types, table_types, types_agree,
 };
 use std::alloc::Global;
 use table_core::TaskParts;
@@ -35,15 +35,24 @@ const TREES: &[Tree] = &[
     Tree::Group(LEFT, &[], Agg::CountDistinct(0)),
     Tree::Group(LEFT, &[], Agg::Sum(0)),
     Tree::Group(LEFT, &[2], Agg::CountAll),
-    Tree::Join(LEFT, RIGHT, SAME),
-    Tree::Left(RIGHT, LEFT, SAME),
-    Tree::UnionAll(RIGHT, RIGHT),
-    Tree::Union(
+    Tree::Pair(Pairing::Join, LEFT, RIGHT, SAME),
+    Tree::Pair(Pairing::Left, RIGHT, LEFT, SAME),
+    Tree::Unite(Uniting::All, RIGHT, RIGHT),
+    Tree::Unite(
+        Uniting::Firsts,
         &Tree::Filter(LEFT, Pred::One(Atom::NotNull(2))),
         &Tree::Base(2),
     ),
-    Tree::Union(&Tree::Filter(LEFT, Pred::One(Atom::NotNull(2))), RIGHT),
-    Tree::Union(&Tree::Filter(LEFT, Pred::One(Atom::NotNull(1))), RIGHT),
+    Tree::Unite(
+        Uniting::Firsts,
+        &Tree::Filter(LEFT, Pred::One(Atom::NotNull(2))),
+        RIGHT,
+    ),
+    Tree::Unite(
+        Uniting::Firsts,
+        &Tree::Filter(LEFT, Pred::One(Atom::NotNull(1))),
+        RIGHT,
+    ),
 ];
 
 // The types of a tree's columns, or the first thing that is wrong with it.
@@ -80,10 +89,10 @@ fn types(rt: &impl Print, alloc: Global) -> Result<(), Failed> {
 
 // The types of an input's columns, and of a tree's.
 fn types_in(rt: &impl Print, alloc: Global, task: &TaskParts) -> Result<(), Failed> {
-    let input = input_types(alloc, task, 1)?;
+    let input = input_types(alloc, task.inputs.as_slice(), 1)?;
     println!(rt; "input: {:?}", input.as_slice())?;
     let tree = node(alloc, &TREES[10])?;
-    let types = node_types(alloc, task, &tree)?;
+    let types = node_types(alloc, task.inputs.as_slice(), &tree)?;
     println!(rt; "tree: {:?}", types.as_slice())?;
     Ok(())
 }

@@ -1,0 +1,201 @@
+//! Whole runs, in memory.
+
+use crate::fault::Failed;
+use crate::make::{Files, fails, files};
+use crate::show::text;
+use io_edge::{MemFolder, MemSink, OpenGate, SureFolder, SureSink};
+use std::alloc::Global;
+use std::thread::Threads;
+use top_call::scythe;
+use value_core::Bytes;
+
+const TABLE: (&str, &str) = ("t.csv", "id,v\n1,10\n2,20\n");
+
+const OUTPUT: (&str, &str) = ("out.csv", "id,v\n2,20\n");
+
+const FILES: Files = &[
+    TABLE,
+    OUTPUT,
+    (
+        "t.toml",
+        "constants = [2]\nops = 1\nleaves = 1\natoms = 1\n[[input]]\nname = \"t\"\nfile = \"t.csv\"\n[output]\nfile = \"out.csv\"\n",
+    ),
+    (
+        "none.toml",
+        "ops = 0\n[[input]]\nname = \"t\"\nfile = \"t.csv\"\n[output]\nfile = \"out.csv\"\n",
+    ),
+    (
+        "wrong.toml",
+        "ops = 5\n[[input]]\nname = \"t\"\nfile = \"t.csv\"\n[output]\nfile = \"out.csv\"\n",
+    ),
+    (
+        "many.toml",
+        "ops = 4\nleaves = 3\naggregates = [\"count(*)\", \"count\", \"count distinct\", \"sum\", \"min\", \"max\"]\n[[input]]\nname = \"t\"\nfile = \"t.csv\"\n[output]\nfile = \"out.csv\"\n",
+    ),
+];
+
+// The words of a run, the number of the read that fails, and the same of the writes to the output and to the error stream,
+// each of which takes one byte.
+#[derive(Clone, Copy)]
+struct Run {
+    words: &'static [&'static str],
+    read: u64,
+    write: u64,
+    line: u64,
+}
+
+const LISTED: Run = Run {
+    words: &["run", "t.toml"],
+    read: 0,
+    write: 0,
+    line: 0,
+};
+
+fn words(alloc: Global, texts: &[&str]) -> Result<Vec<Bytes>, Failed> {
+    let mut words = Vec::new(alloc);
+    for text in texts {
+        words.push(Bytes::of(alloc, text.as_bytes())?)?;
+    }
+    Ok(words)
+}
+
+fn sink(alloc: Global, fail: u64) -> Result<MemSink, Failed> {
+    Ok(MemSink::new(alloc, 1000, 1, fails(alloc, fail)?)?)
+}
+
+// The status of a run.
+fn status<R: Threads + Sync>(
+    rt: &R,
+    alloc: Global,
+    run: &Run,
+    out: &mut MemSink,
+    err: &mut MemSink,
+) -> Result<u8, Failed> {
+    let words = words(alloc, run.words)?;
+    let mut folder = MemFolder::new(alloc, files(alloc, FILES)?, fails(alloc, run.read)?)?;
+    let words = words.as_slice();
+    Ok(scythe(rt, alloc, words, &mut folder, out, err, &OpenGate).status())
+}
+
+// The status of a run, and what it wrote.
+fn shown<R: Print + Threads + Sync>(rt: &R, alloc: Global, run: &Run) -> Result<(), Failed> {
+    let mut out = sink(alloc, run.write)?;
+    let mut err = sink(alloc, run.line)?;
+    let status = status(rt, alloc, run, &mut out, &mut err)?;
+    println!(rt; "status {status}: {:?}", text(out.bytes()))?;
+    println!(rt; "  {:?}", text(err.bytes()))?;
+    Ok(())
+}
+
+const RUNS: &[Run] = &[
+    LISTED,
+    Run {
+        words: &["run", "none.toml"],
+        ..LISTED
+    },
+    Run {
+        words: &["run", "wrong.toml"],
+        ..LISTED
+    },
+    Run {
+        words: &["run", "many.toml"],
+        ..LISTED
+    },
+    Run { read: 1, ..LISTED },
+    Run { read: 2, ..LISTED },
+    Run { read: 3, ..LISTED },
+    Run { write: 1, ..LISTED },
+    Run { write: 9, ..LISTED },
+    Run {
+        read: 2,
+        line: 1,
+        ..LISTED
+    },
+    Run {
+        read: 2,
+        line: 26,
+        ..LISTED
+    },
+    Run {
+        words: &[],
+        ..LISTED
+    },
+    Run {
+        words: &["run"],
+        ..LISTED
+    },
+    Run {
+        words: &["find", "t.toml"],
+        ..LISTED
+    },
+    Run {
+        words: &["run", "a", "b"],
+        ..LISTED
+    },
+    Run {
+        words: &["run", ""],
+        ..LISTED
+    },
+    Run {
+        words: &["run", "-h"],
+        ..LISTED
+    },
+];
+
+// Whether a run whose write of this number fails wrote all before it and nothing more.
+fn stops<R: Threads + Sync>(
+    rt: &R,
+    alloc: Global,
+    whole: &[u8],
+    number: u64,
+) -> Result<bool, Failed> {
+    let mut out = sink(alloc, number)?;
+    let mut err = sink(alloc, 0)?;
+    let status = status(rt, alloc, &LISTED, &mut out, &mut err)?;
+    Ok(status == 7 && out.bytes().len() as u64 == number - 1 && whole.starts_with(out.bytes()))
+}
+
+// Each write of a run fails in turn.
+fn each_write<R: Print + Threads + Sync>(rt: &R, alloc: Global) -> Result<(), Failed> {
+    let mut out = sink(alloc, 0)?;
+    let mut err = sink(alloc, 0)?;
+    status(rt, alloc, &LISTED, &mut out, &mut err)?;
+    let whole = out.bytes();
+    let mut stopped = 0u64;
+    for number in 0..whole.len() as u64 {
+        if stops(rt, alloc, whole, number + 1)? {
+            stopped = stopped.saturating_add(1);
+        }
+    }
+    println!(rt;
+        "of {} writes {stopped} stop the run where they fail",
+        whole.len()
+    )?;
+    Ok(())
+}
+
+// A run over a folder and sinks that never fail.
+fn sure<R: Print + Threads + Sync>(rt: &R, alloc: Global) -> Result<(), Failed> {
+    let words = words(alloc, LISTED.words)?;
+    let words = words.as_slice();
+    let mut folder = SureFolder::new(files(alloc, FILES)?);
+    let end = scythe(
+        rt,
+        alloc,
+        words,
+        &mut folder,
+        &mut SureSink,
+        &mut SureSink,
+        &OpenGate,
+    );
+    println!(rt; "{end:?}")?;
+    Ok(())
+}
+
+pub fn samples<R: Print + Threads + Sync>(rt: &R, alloc: Global) -> Result<(), Failed> {
+    for run in RUNS {
+        shown(rt, alloc, run)?;
+    }
+    each_write(rt, alloc)?;
+    sure(rt, alloc)
+}
