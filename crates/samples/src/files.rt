@@ -5,6 +5,7 @@ use crate::show::{Grid, text};
 use std::alloc::Global;
 use table_read::read_table;
 use task_file::{TaskFile, read_task_file};
+use toml::Table;
 use toml_keys::{array_at, has_only, number_or, read_document, table_at, text_at};
 use value_core::Word;
 
@@ -49,41 +50,85 @@ fn table(rt: &impl Print, alloc: Global, bytes: &[u8]) -> Result<(), Failed> {
     Ok(())
 }
 
-// The keys of a document.
-fn document(rt: &impl Print, alloc: Global, source: &str) -> Result<(), Failed> {
-    let Some(table) = read_document(alloc, source.as_bytes())? else {
-        println!(rt; "{source:?} is no document")?;
-        return Ok(());
-    };
-    let number = number_or(&table, "number", 2, 0, 4);
-    let word = text_at(&table, "text", 3).map(text);
-    println!(rt; "{source:?}: {number:?}, {word:?}")?;
-    let len = array_at(&table, "array", 1, 2).map(|items| items.len());
-    let has_table = table_at(&table, "table").is_some();
-    let has_only = has_only(&table, &["number", "text"]);
-    println!(rt; "  array: {len:?}, table: {has_table}, no other key: {has_only}")?;
+// The keys of a table: a number up to 4, a text up to 3 bytes, an array of one or two, and whether there are others.
+fn keys(rt: &impl Print, table: &Table) -> Result<(), Failed> {
+    let number = number_or(table, "number", 2, 0, 4);
+    let word = text_at(table, "text", 3).map(text);
+    let len = array_at(table, "array", 1, 2).map(|items| items.len());
+    let has_only = has_only(table, &["number", "text", "array"]);
+    println!(rt; "  {number:?}, {word:?}, array {len:?}, no other key: {has_only}")?;
     Ok(())
 }
 
-const DOCUMENTS: &[&str] = &[
-    "",
-    "number = 0\ntext = \"abc\"",
-    "number = 5\ntext = \"abcd\"",
-    "number = \"1\"\narray = [1, \"a\"]\n[table]\n",
-    "array = []\ntext = \"\"\n",
-    "number = 1\nnumber = 2\n",
-    "number =",
+// The keys of a document, and of a table in it.
+fn document(rt: &impl Print, alloc: Global, bytes: &[u8]) -> Result<(), Failed> {
+    println!(rt; "{:?}", text(bytes))?;
+    let Some(table) = read_document(alloc, bytes)? else {
+        println!(rt; "  no document")?;
+        return Ok(());
+    };
+    keys(rt, &table)?;
+    match table_at(&table, "table") {
+        Some(inner) => keys(rt, inner),
+        None => Ok(()),
+    }
+}
+
+const DOCUMENTS: &[&[u8]] = &[
+    b"",
+    b"number = 0\ntext = \"abc\"\n",
+    b"number = 5\ntext = \"abcd\"\n",
+    b"number = -1\ntext = \"\"\narray = []\n",
+    b"number = \"1\"\narray = [1, \"a\"]\n[table]\nnumber = 4\nmore = 0\n",
+    b"array = [1, 2, 3]\ntable = 1\n",
+    b"number = 1\nnumber = 2\n",
+    b"number =",
+    b"text = \"\xff\"\n",
 ];
 
-const TASKS: &[&str] = &[
-    "[[input]]\nname = \"t\"\nfile = \"t.csv\"\n[output]\nfile = \"o.csv\"\n",
-    "constants = [2]\naggregates = [\"sum\", \"count(*)\"]\nops = 0\nleaves = 3\natoms = 1\n[[input]]\nname = \"t\"\nfile = \"t.csv\"\n[output]\nfile = \"o.csv\"\n",
-    "ops = 5\n[[input]]\nname = \"t\"\nfile = \"t.csv\"\n[output]\nfile = \"o.csv\"\n",
-    "show = 2\n[[input]]\nname = \"t\"\nfile = \"t.csv\"\n[output]\nfile = \"o.csv\"\n",
-    "constants = [1, 1]\n[[input]]\nname = \"t\"\nfile = \"t.csv\"\n[output]\nfile = \"o.csv\"\n",
-    "aggregates = [\"avg\"]\n[[input]]\nname = \"t\"\nfile = \"t.csv\"\n[output]\nfile = \"o.csv\"\n",
-    "[output]\nfile = \"o.csv\"\n",
-    "[[input]]\nname = \"t\"\nfile = \"t.csv\"\n",
+const TABLES_ALONE: &str =
+    "[[input]]\nname = \"t\"\nfile = \"t.csv\"\n[output]\nfile = \"o.csv\"\n";
+
+// Task files, each in two parts.
+const TASKS: &[(&str, &str)] = &[
+    ("", TABLES_ALONE),
+    ("ops = 4\nleaves = 3\natoms = 3\n", TABLES_ALONE),
+    (
+        "input = [{ name = \"t\", file = \"t.csv\" }]\n",
+        "output = { file = \"o.csv\" }\nops = 0\n",
+    ),
+    (
+        "constants = [1, \"1\", -9223372036854775808]\n",
+        TABLES_ALONE,
+    ),
+    ("aggregates = [\"max\", \"count distinct\"]\n", TABLES_ALONE),
+    (
+        "aggregates = []\n[[input]]\nname = \"s\"\nfile = \"s.csv\"\n",
+        TABLES_ALONE,
+    ),
+    ("aggregates = [\"mean\"]\n", TABLES_ALONE),
+    ("aggregates = [\"sum\", \"sum\"]\n", TABLES_ALONE),
+    ("ops = 5\n", TABLES_ALONE),
+    ("leaves = 0\n", TABLES_ALONE),
+    ("leaves = 4\n", TABLES_ALONE),
+    ("atoms = 0\n", TABLES_ALONE),
+    ("atoms = 4\n", TABLES_ALONE),
+    ("ops = 1.5\n", TABLES_ALONE),
+    ("show = 3\n", TABLES_ALONE),
+    ("constants = [1, 2, 3, 4, 5, 6, 7]\n", TABLES_ALONE),
+    ("constants = [\"a\", 1, \"a\"]\n", TABLES_ALONE),
+    ("constants = [\"\"]\n", TABLES_ALONE),
+    ("[[input]]\nname = \"\"\nfile = \"s.csv\"\n", TABLES_ALONE),
+    (
+        "[[input]]\nname = \"s\"\nfile = \"s.csv\"\nkey = 1\n",
+        TABLES_ALONE,
+    ),
+    (
+        "input = [{ name = \"a\", file = \"a\" }, { name = \"b\", file = \"b\" }, { name = \"c\", file = \"c\" }, { name = \"d\", file = \"d\" }, { name = \"e\", file = \"e\" }]\n",
+        "output = { file = \"o.csv\" }\n",
+    ),
+    ("[[input]]\nname = \"t\"\nfile = \"t.csv\"\n", ""),
+    (TABLES_ALONE, "name = \"cut"),
 ];
 
 // What a task file asks for.
@@ -105,7 +150,9 @@ fn asked(rt: &impl Print, task: &TaskFile) -> Result<(), Failed> {
     Ok(())
 }
 
-fn task(rt: &impl Print, alloc: Global, source: &str) -> Result<(), Failed> {
+// A task file of two parts.
+fn task(rt: &impl Print, alloc: Global, front: &str, back: &str) -> Result<(), Failed> {
+    let source = format!(in alloc; "{front}{back}")?;
     match read_task_file(alloc, source.as_bytes())? {
         Some(task) => asked(rt, &task)?,
         None => println!(rt; "no task file")?,
@@ -117,11 +164,11 @@ pub fn samples(rt: &impl Print, alloc: Global) -> Result<(), Failed> {
     for bytes in TABLES {
         table(rt, alloc, bytes)?;
     }
-    for source in DOCUMENTS {
-        document(rt, alloc, source)?;
+    for bytes in DOCUMENTS {
+        document(rt, alloc, bytes)?;
     }
-    for source in TASKS {
-        task(rt, alloc, source)?;
+    for (front, back) in TASKS {
+        task(rt, alloc, front, back)?;
     }
     Ok(())
 }
