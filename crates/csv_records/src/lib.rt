@@ -3,8 +3,6 @@
 
 mod reading;
 mod record;
-#[cfg(test)]
-mod tests;
 
 pub use reading::read_records;
 pub use record::Record;
