@@ -23,6 +23,3 @@ pub use mem_sink::MemSink;
 pub use sink::{Sink, write_all};
 pub use std_sink::StdSink;
 pub use sure::{SureFolder, SureSink};
-
-#[cfg(test)]
-mod tests;
