@@ -7,6 +7,3 @@ mod ranked;
 
 pub use rank_key::{RankKey, before, key, key_order};
 pub use ranked::{Ranked, sort};
-
-#[cfg(test)]
-mod tests;
