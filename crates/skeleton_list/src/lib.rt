@@ -10,6 +10,3 @@ mod skeleton;
 
 pub use fault::ListFault;
 pub use levels::skeletons;
-
-#[cfg(test)]
-mod tests;
