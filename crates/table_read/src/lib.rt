@@ -6,7 +6,5 @@ mod columns;
 mod header;
 mod reading;
 mod rows;
-#[cfg(test)]
-mod tests;
 
 pub use reading::read_table;
