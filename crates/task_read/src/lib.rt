@@ -9,6 +9,3 @@ mod task;
 
 pub use fault::TaskEnd;
 pub use task::read_task;
-
-#[cfg(test)]
-mod tests;
