@@ -10,6 +10,3 @@ mod run;
 
 pub use end::End;
 pub use run::scythe;
-
-#[cfg(test)]
-mod tests;
