@@ -9,7 +9,7 @@ use Rattle.bit_classes.specs.declared.class.Class.{Class}
 use Rattle.bit_classes.specs.declared.class.ClassEnd.{ClassEnd}
 use Rattle.bit_classes.specs.declared.join.Join.{Join}
 use Rattle.bit_classes.specs.declared.join.Join.TheVariants.{And, Or}
-use Rattle.bit_classes.specs.Walk.{Walk, Sees, numbered, told_pairs, told_triples, told_under, classes_under, told_more, joined_told}
+use Rattle.bit_classes.specs.Walk.{Walk, Sees, numbered, told_pairs, told_triples, told_under, classes_under, told_more, combined_told}
 use Rattle.bit_classes.proofs.WalkLaws.{sees_then, sees_stopped, sees_same}
 use Rattle.bit_classes.proofs.SplitLaws.{numbered_parts, enumerated_parts, length-told_under}
 
@@ -26,7 +26,7 @@ sees_first_part a b c n xs ys end first =
 
 -- how many vectors there are of two atoms, and of three
 pub length-told_pairs : (join : Join) (rows : List (Option (List Bool))) → length (told_pairs join rows) ≡ pair_count (length rows)
-length-told_pairs join rows = length-map (pairs rows) (λ p. joined_told join p.0 p.1) ∙ length-pairs rows
+length-told_pairs join rows = length-map (pairs rows) (λ p. combined_told join p.0 p.1) ∙ length-pairs rows
 
 pub length-told_triples : (join : Join) (classes : List Class) (rows : List (Option (List Bool))) → length (told_triples join classes rows) ≡ triple_count (length rows)
 length-told_triples join classes [] = refl

@@ -12,7 +12,7 @@ use Rattle.predicate_core.proofs.KeepsLaws.{keeps_by_atoms}
 use Rattle.bit_rows.specs.Bits.{and_bits, or_bits}
 use Rattle.bit_classes.specs.declared.join.Join.{Join}
 use Rattle.bit_classes.specs.declared.join.Join.TheVariants.{And, Or}
-use Rattle.bit_classes.specs.Vectors.{combined, joined_pairs, joined_triples, more_vectors, vectors}
+use Rattle.bit_classes.specs.Vectors.{combined, combined_pairs, combined_triples, more_vectors, vectors}
 use Rattle.bit_classes.specs.Laws.{kept_vector, VectorsOfPreds}
 use Rattle.bit_classes.proofs.SplitLaws.{map-map}
 
@@ -92,7 +92,7 @@ module _ (constants : List Value) (candidates : List (List Value)) where
   -- ---- the vectors of a list of predicates
 
   pairs_vectors : (join : Join) (pred : Atom → Atom → Pred) → ((a b : Atom) → kept_vector constants candidates (pred a b) ≡ combined join (atom_vector a) (atom_vector b))
-      → (atoms : List Atom) → map (kept_vector constants candidates) (map (λ p. pred p.0 p.1) (pairs atoms)) ≡ joined_pairs join (map atom_vector atoms)
+      → (atoms : List Atom) → map (kept_vector constants candidates) (map (λ p. pred p.0 p.1) (pairs atoms)) ≡ combined_pairs join (map atom_vector atoms)
   pairs_vectors join pred each atoms =
       let of : Atom × Atom → Pred = λ p. pred p.0 p.1 in
       let parts : Atom × Atom → List Bool × List Bool = λ p. (atom_vector p.0, atom_vector p.1) in
@@ -103,7 +103,7 @@ module _ (constants : List Value) (candidates : List (List Value)) where
       ∙ ap (map joins) (sym (pairs-map atom_vector atoms))
 
   triples_vectors : (join : Join) (pred : Atom → Atom → Atom → Pred) → ((a b c : Atom) → kept_vector constants candidates (pred a b c) ≡ combined join (combined join (atom_vector a) (atom_vector b)) (atom_vector c))
-      → (atoms : List Atom) → map (kept_vector constants candidates) (map (λ t. pred t.0 t.1 t.2) (triples atoms)) ≡ joined_triples join (map atom_vector atoms)
+      → (atoms : List Atom) → map (kept_vector constants candidates) (map (λ t. pred t.0 t.1 t.2) (triples atoms)) ≡ combined_triples join (map atom_vector atoms)
   triples_vectors join pred each atoms =
       let of : Atom × Atom × Atom → Pred = λ t. pred t.0 t.1 t.2 in
       let parts : Atom × Atom × Atom → List Bool × List Bool × List Bool = λ t. (atom_vector t.0, atom_vector t.1, atom_vector t.2) in
@@ -113,12 +113,12 @@ module _ (constants : List Value) (candidates : List (List Value)) where
       ∙ sym (map-map joins parts (triples atoms))
       ∙ ap (map joins) (sym (triples-map atom_vector atoms))
 
-  two_vectors : (atoms : List Atom) → map (kept_vector constants candidates) (two_atoms atoms) ≡ joined_pairs And (map atom_vector atoms) ++ joined_pairs Or (map atom_vector atoms)
+  two_vectors : (atoms : List Atom) → map (kept_vector constants candidates) (two_atoms atoms) ≡ combined_pairs And (map atom_vector atoms) ++ combined_pairs Or (map atom_vector atoms)
   two_vectors atoms =
       map-append (kept_vector constants candidates) (map (λ p. And2 p.0 p.1) (pairs atoms)) (map (λ p. Or2 p.0 p.1) (pairs atoms))
       ∙ (λ i. pairs_vectors And (λ a b. And2 a b) and2_vector atoms i ++ pairs_vectors Or (λ a b. Or2 a b) or2_vector atoms i)
 
-  three_vectors : (atoms : List Atom) → map (kept_vector constants candidates) (three_atoms atoms) ≡ joined_triples And (map atom_vector atoms) ++ joined_triples Or (map atom_vector atoms)
+  three_vectors : (atoms : List Atom) → map (kept_vector constants candidates) (three_atoms atoms) ≡ combined_triples And (map atom_vector atoms) ++ combined_triples Or (map atom_vector atoms)
   three_vectors atoms =
       map-append (kept_vector constants candidates) (map (λ p. And3 p.0 p.1 p.2) (triples atoms)) (map (λ p. Or3 p.0 p.1 p.2) (triples atoms))
       ∙ (λ i. triples_vectors And (λ a b c. And3 a b c) and3_vector atoms i ++ triples_vectors Or (λ a b c. Or3 a b c) or3_vector atoms i)

@@ -10,7 +10,7 @@ use Rattle.bit_classes.specs.declared.join.Join.{Join}
 use Rattle.bit_classes.specs.declared.join.Join.TheVariants.{And, Or}
 use Rattle.bit_classes.specs.declared.class.Class.{Class}
 use Rattle.bit_classes.specs.Vectors.{combined}
-use Rattle.bit_classes.specs.Walk.{HasWidth, joined_told, is_known, with_vector, numbered, new_vectors, if_new, with_told, told_under, classes_under, told_triples}
+use Rattle.bit_classes.specs.Walk.{HasWidth, combined_told, is_known, with_vector, numbered, new_vectors, if_new, with_told, told_under, classes_under, told_triples}
 
 pub add_more : (n i : ℕ) → n + i + 1 ≡ n + (i + 1)
 add_more n i = omega arith
@@ -81,11 +81,11 @@ pairs_end {X} g xs n i past = ap (λ (ys : List X). numbered n (map (λ p. g p.0
 
 -- what a first vector tells with two of what is left: with the first of these and each other, and then the rest
 pub under_split : (join : Join) (classes after : List Class) (first : Option (List Bool)) (xs : List (Option (List Bool))) (n m i : ℕ) (x : Option (List Bool)) → i < length xs → x ≡ get_or xs i x → m ≡ n + length (drop (i + 1) xs)
-    → after ≡ with_told classes (joined_told join first x)
-    → numbered n (told_under join classes first (drop i xs)) ≡ numbered n (map (joined_told join (if_new classes (joined_told join first x))) (drop (i + 1) xs)) ++ numbered m (told_under join after first (drop (i + 1) xs))
+    → after ≡ with_told classes (combined_told join first x)
+    → numbered n (told_under join classes first (drop i xs)) ≡ numbered n (map (combined_told join (if_new classes (combined_told join first x))) (drop (i + 1) xs)) ++ numbered m (told_under join after first (drop (i + 1) xs))
 under_split join classes after first xs n m i x below is next seen =
     let rest = drop (i + 1) xs in
-    let f : Option (List Bool) → Option (List Bool) = joined_told join (if_new classes (joined_told join first x)) in
+    let f : Option (List Bool) → Option (List Bool) = combined_told join (if_new classes (combined_told join first x)) in
     let here : drop i xs ≡ x ∷ rest = drop_more xs i x below ∙ ap (λ y. y ∷ rest) (sym is) in
     let split = ap (told_under join classes first) here ∙ ap (λ cs. map f rest ++ told_under join cs first rest) (sym seen) in
     parted n m (told_under join classes first (drop i xs)) (map f rest) (told_under join after first rest) split (next ∙ ap (λ k. n + k) (sym (length-map rest f)))
@@ -93,7 +93,7 @@ under_split join classes after first xs n m i x below is next seen =
 pub under_end : (join : Join) (classes : List Class) (first : Option (List Bool)) (xs : List (Option (List Bool))) (n i : ℕ) → length xs ≤ i → numbered n (told_under join classes first (drop i xs)) ≡ []
 under_end join classes first xs n i past = ap (λ ys. numbered n (told_under join classes first ys)) (drop_all i xs past)
 
-pub classes_split : (join : Join) (classes after : List Class) (first : Option (List Bool)) (xs : List (Option (List Bool))) (i : ℕ) (x : Option (List Bool)) → i < length xs → x ≡ get_or xs i x → after ≡ with_told classes (joined_told join first x)
+pub classes_split : (join : Join) (classes after : List Class) (first : Option (List Bool)) (xs : List (Option (List Bool))) (i : ℕ) (x : Option (List Bool)) → i < length xs → x ≡ get_or xs i x → after ≡ with_told classes (combined_told join first x)
     → classes_under join classes first (drop i xs) ≡ classes_under join after first (drop (i + 1) xs)
 classes_split join classes after first xs i x below is seen =
     let rest = drop (i + 1) xs in
@@ -106,8 +106,8 @@ classes_end join classes first xs i past = ap (classes_under join classes first)
 pub length-told_under : (join : Join) (classes : List Class) (first : Option (List Bool)) (xs : List (Option (List Bool))) → length (told_under join classes first xs) ≡ pair_count (length xs)
 length-told_under join classes first [] = refl
 length-told_under join classes first (x ∷ xs) =
-    let f : Option (List Bool) → Option (List Bool) = joined_told join (if_new classes (joined_told join first x)) in
-    let after = with_told classes (joined_told join first x) in
+    let f : Option (List Bool) → Option (List Bool) = combined_told join (if_new classes (combined_told join first x)) in
+    let after = with_told classes (combined_told join first x) in
     length-append (map f xs) (told_under join after first xs) ∙ rw (length-map xs f, length-told_under join after first xs) refl
 
 pub triples_split : (join : Join) (classes after : List Class) (xs : List (Option (List Bool))) (n m i : ℕ) (x : Option (List Bool)) → i < length xs → x ≡ get_or xs i x → m ≡ n + pair_count (length (drop (i + 1) xs))
@@ -130,7 +130,7 @@ same_width width row (Some v) is has = is ∙ sym has
 pub HasWidth-read : (width : ℕ) (tolds : List (Option (List Bool))) (i : ℕ) (told : Option (List Bool)) → told ≡ get_or tolds i told → i < length tolds → All (HasWidth width) tolds → HasWidth width told
 HasWidth-read width tolds i told is below all = subst (HasWidth width) (sym is) (all i told below)
 
-pub HasWidth-join : (join : Join) (width : ℕ) (row : List Bool) (told : Option (List Bool)) → length row ≡ width → HasWidth width told → HasWidth width (joined_told join (Some row) told)
+pub HasWidth-join : (join : Join) (width : ℕ) (row : List Bool) (told : Option (List Bool)) → length row ≡ width → HasWidth width told → HasWidth width (combined_told join (Some row) told)
 HasWidth-join join width row None is has = tt
 HasWidth-join join width row (Some v) is has = joined_length join row v (is ∙ sym has) ∙ is
 
@@ -146,8 +146,8 @@ pub none_numbered : {X : Type 0} (f : X → Option (List Bool)) → ((x : X) →
 none_numbered f none n [] = refl
 none_numbered f none n (x ∷ xs) = ap (λ u. numbered n (u ∷ map f xs)) (none x) ∙ none_numbered f none (n + 1) xs
 
-pub none_joined : (join : Join) (told : Option (List Bool)) (other : Option (List Bool)) → told ≡ None → joined_told join told other ≡ None
-none_joined join told other is = ap (λ u. joined_told join u other) is
+pub none_joined : (join : Join) (told : Option (List Bool)) (other : Option (List Bool)) → told ≡ None → combined_told join told other ≡ None
+none_joined join told other is = ap (λ u. combined_told join u other) is
 
 -- numbered elements, in two parts
 pub enumerated_parts : {X : Type 0} (n m : ℕ) (xs ys : List X) → m ≡ n + length xs → enumerate_from n (xs ++ ys) ≡ enumerate_from n xs ++ enumerate_from m ys
@@ -157,8 +157,8 @@ enumerated_parts n m (x ∷ xs) ys long = ap (λ es. (n, x) ∷ es) (enumerated_
 nothing_under : (join : Join) (classes : List Class) (n : ℕ) (xs : List (Option (List Bool))) → numbered n (told_under join classes None xs) ≡ []
 nothing_under join classes n [] = refl
 nothing_under join classes n (x ∷ xs) =
-    parted n (n + length (map (joined_told join None) xs)) (told_under join classes None (x ∷ xs)) (map (joined_told join None) xs) (told_under join classes None xs) refl refl
-    ∙ (λ i. none_numbered (joined_told join None) (λ u. refl) n xs i ++ nothing_under join classes (n + length (map (joined_told join None) xs)) xs i)
+    parted n (n + length (map (combined_told join None) xs)) (told_under join classes None (x ∷ xs)) (map (combined_told join None) xs) (told_under join classes None xs) refl refl
+    ∙ (λ i. none_numbered (combined_told join None) (λ u. refl) n xs i ++ nothing_under join classes (n + length (map (combined_told join None) xs)) xs i)
 
 nothing_more : (join : Join) (classes : List Class) (xs : List (Option (List Bool))) → classes_under join classes None xs ≡ classes
 nothing_more join classes [] = refl

@@ -11,8 +11,8 @@ use Rattle.bit_classes.specs.declared.class.Class.{Class}
 use Rattle.bit_classes.specs.declared.class.ClassEnd.{ClassEnd}
 use Rattle.bit_classes.specs.declared.join.Join.{Join}
 use Rattle.bit_classes.specs.declared.join.Join.TheVariants.{And, Or}
-use Rattle.bit_classes.specs.Vectors.{combined, joined_pairs, joined_triples, more_vectors}
-use Rattle.bit_classes.specs.Walk.{Walk, Sees, HasWidth, is_known, with_vector, with_vectors, numbered, new_vectors, joined_told, told_pairs, told_triples, told_more}
+use Rattle.bit_classes.specs.Vectors.{combined, combined_pairs, combined_triples, more_vectors}
+use Rattle.bit_classes.specs.Walk.{Walk, Sees, HasWidth, is_known, with_vector, with_vectors, numbered, new_vectors, combined_told, told_pairs, told_triples, told_more}
 use Rattle.bit_classes.proofs.WalkLaws.{known_stays}
 use Rattle.bit_classes.proofs.ThinLaws.{Thin, thin_wider, thin_append, thin_length, thin_pairs, in_front, in_back, in_mapped, two_in}
 use Rattle.bit_classes.proofs.KnownLaws.{known_kept, known_itself, known_before, known_after, seen_known}
@@ -60,7 +60,7 @@ thin_widths width K (u ∷ us) (v ∷ vs) t wide =
 
 -- ---- two atoms and three
 
-told_some : (join : Join) (x y : List Bool) → joined_told join (Some x) (Some y) ≡ Some (combined join x y)
+told_some : (join : Join) (x y : List Bool) → combined_told join (Some x) (Some y) ≡ Some (combined join x y)
 told_some join x y = refl
 
 module _ (width : ℕ) (K : List Bool → Type 0) (ms : List (Option (List Bool))) (rows : List (List Bool))
@@ -73,14 +73,14 @@ module _ (width : ℕ) (K : List Bool → Type 0) (ms : List (Option (List Bool)
   full_known And y z e among = subst K (sym (ap (λ w. combined And w z) e ∙ full_and_is width z (wide z among))) (known z among)
   full_known Or y z e among = subst K (sym (ap (λ w. combined Or w z) e ∙ full_or_is width z (wide z among))) (known full (inl refl))
 
-  two_thin : (join : Join) → Thin K (told_pairs join ms) (joined_pairs join rows)
+  two_thin : (join : Join) → Thin K (told_pairs join ms) (combined_pairs join rows)
   two_thin join =
-      thin_pairs (combined join) (joined_told join) (told_some join) (λ y. refl) (λ x. refl) (joined_turned join) (λ w. w ≡ full) K ms rows thin
+      thin_pairs (combined join) (combined_told join) (told_some join) (λ y. refl) (λ x. refl) (joined_turned join) (λ w. w ≡ full) K ms rows thin
       (λ z among. subst K (sym (joined_own join z)) (known z among)) (λ y z e among. full_known join y z e among)
 
   -- what is known once the pairs are
   abbrev Known2 : (List Bool → Type 0) → Join → Type 0
-  Known2 L join = (w : List Bool) → K w ⊎ In w (joined_pairs join rows) → L w
+  Known2 L join = (w : List Bool) → K w ⊎ In w (combined_pairs join rows) → L w
 
   pair_known : (L : List Bool → Type 0) (join : Join) → Known2 L join → (y z : List Bool) → (y ≡ full) ⊎ In y rows → (z ≡ full) ⊎ In z rows → L (combined join y z)
   pair_known L join two y z (inl e) among = two (combined join y z) (inl (full_known join y z e among))
@@ -101,35 +101,35 @@ module _ (width : ℕ) (K : List Bool → Type 0) (ms : List (Option (List Bool)
   full_first L Or two a y z e among_y among_z =
       subst L (sym (ap (λ w. combined Or w z) (ap (λ w. combined Or w y) e ∙ full_or_is width y (wide y among_y)))) (pair_known L Or two full z (inl refl) among_z)
 
-  three_thin : (L : List Bool → Type 0) (join : Join) → Known2 L join → Thin L (told_triples join [] ms) (joined_triples join rows)
+  three_thin : (L : List Bool → Type 0) (join : Join) → Known2 L join → Thin L (told_triples join [] ms) (combined_triples join rows)
   three_thin L join two =
       triples_thin join (λ w. w ≡ full) L [] ms rows thin (pair_known L join two) (full_first L join two) (λ c known z among. absurd (false≢true known))
 
   -- the pairs by AND and by OR
-  both_thin : Thin K (told_pairs And ms ++ told_pairs Or ms) (joined_pairs And rows ++ joined_pairs Or rows)
+  both_thin : Thin K (told_pairs And ms ++ told_pairs Or ms) (combined_pairs And rows ++ combined_pairs Or rows)
   both_thin =
-      thin_append K (told_pairs And ms) (joined_pairs And rows) (told_pairs Or ms) (joined_pairs Or rows) (two_thin And)
-      (thin_wider K (λ w. K w ⊎ In w (joined_pairs And rows)) (λ w k. inl k) (told_pairs Or ms) (joined_pairs Or rows) (two_thin Or))
+      thin_append K (told_pairs And ms) (combined_pairs And rows) (told_pairs Or ms) (combined_pairs Or rows) (two_thin And)
+      (thin_wider K (λ w. K w ⊎ In w (combined_pairs And rows)) (λ w k. inl k) (told_pairs Or ms) (combined_pairs Or rows) (two_thin Or))
 
   Pairs : List Bool → Type 0
-  Pairs w = K w ⊎ In w (joined_pairs And rows ++ joined_pairs Or rows)
+  Pairs w = K w ⊎ In w (combined_pairs And rows ++ combined_pairs Or rows)
 
-  known_by : (join : Join) (w : List Bool) → K w ⊎ In w (joined_pairs join rows) → Pairs w
+  known_by : (join : Join) (w : List Bool) → K w ⊎ In w (combined_pairs join rows) → Pairs w
   unfolding Pairs
   known_by join w (inl k) = inl k
-  known_by And w (inr i) = inr (in_front w (joined_pairs And rows) (joined_pairs Or rows) i)
-  known_by Or w (inr i) = inr (in_back w (joined_pairs And rows) (joined_pairs Or rows) i)
+  known_by And w (inr i) = inr (in_front w (combined_pairs And rows) (combined_pairs Or rows) i)
+  known_by Or w (inr i) = inr (in_back w (combined_pairs And rows) (combined_pairs Or rows) i)
 
-  all_three_thin : Thin Pairs (told_triples And [] ms ++ told_triples Or [] ms) (joined_triples And rows ++ joined_triples Or rows)
+  all_three_thin : Thin Pairs (told_triples And [] ms ++ told_triples Or [] ms) (combined_triples And rows ++ combined_triples Or rows)
   all_three_thin =
-      thin_append Pairs (told_triples And [] ms) (joined_triples And rows) (told_triples Or [] ms) (joined_triples Or rows) (three_thin Pairs And (known_by And))
-      (thin_wider Pairs (λ w. Pairs w ⊎ In w (joined_triples And rows)) (λ w k. inl k) (told_triples Or [] ms) (joined_triples Or rows) (three_thin Pairs Or (known_by Or)))
+      thin_append Pairs (told_triples And [] ms) (combined_triples And rows) (told_triples Or [] ms) (combined_triples Or rows) (three_thin Pairs And (known_by And))
+      (thin_wider Pairs (λ w. Pairs w ⊎ In w (combined_triples And rows)) (λ w k. inl k) (told_triples Or [] ms) (combined_triples Or rows) (three_thin Pairs Or (known_by Or)))
 
   more_thin : (two three : Bool) → (three ≡ true → two ≡ true)
       → Thin K ((if two then told_pairs And ms ++ told_pairs Or ms else []) ++ (if three then told_triples And [] ms ++ told_triples Or [] ms else []))
-      ((if two then joined_pairs And rows ++ joined_pairs Or rows else []) ++ (if three then joined_triples And rows ++ joined_triples Or rows else []))
+      ((if two then combined_pairs And rows ++ combined_pairs Or rows else []) ++ (if three then combined_triples And rows ++ combined_triples Or rows else []))
   unfolding Pairs
-  more_thin true true so = thin_append K _ _ (told_triples And [] ms ++ told_triples Or [] ms) (joined_triples And rows ++ joined_triples Or rows) both_thin all_three_thin
+  more_thin true true so = thin_append K _ _ (told_triples And [] ms ++ told_triples Or [] ms) (combined_triples And rows ++ combined_triples Or rows) both_thin all_three_thin
   more_thin true false so = thin_append K _ _ [] [] both_thin tt
   more_thin false true so = absurd (false≢true (so refl))
   more_thin false false so = tt

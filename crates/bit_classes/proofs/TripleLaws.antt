@@ -9,8 +9,8 @@ use Rattle.predicate_core.proofs.NumberLaws.{length-pairs}
 use Rattle.predicate_core.proofs.OnceLists.{In, in_same, in_pairs}
 use Rattle.bit_classes.specs.declared.class.Class.{Class}
 use Rattle.bit_classes.specs.declared.join.Join.{Join}
-use Rattle.bit_classes.specs.Vectors.{combined, joined_triples}
-use Rattle.bit_classes.specs.Walk.{is_known, joined_told, if_new, with_told, told_under, classes_under, told_triples}
+use Rattle.bit_classes.specs.Vectors.{combined, combined_triples}
+use Rattle.bit_classes.specs.Walk.{is_known, combined_told, if_new, with_told, told_under, classes_under, told_triples}
 use Rattle.bit_classes.proofs.KnownLaws.{known_before}
 use Rattle.bit_classes.proofs.JoinLaws.{joined_turned, joined_grouped, joined_own}
 use Rattle.bit_classes.proofs.SplitLaws.{map-map}
@@ -81,20 +81,20 @@ module _ (join : Join) where
 
   -- a class was there before, or is the first vector combined with one that is told
   class_from : (classes : List Class) (first : Option Vector) (ms : List (Option Vector)) (c : Vector) → is_known (classes_under join classes first ms) c ≡ true
-      → (is_known classes c ≡ true) ⊎ ((u : Option Vector) × In u ms × (joined_told join first u ≡ Some c))
+      → (is_known classes c ≡ true) ⊎ ((u : Option Vector) × In u ms × (combined_told join first u ≡ Some c))
   class_from classes first [] c known = inl known
   class_from classes first (m ∷ ms) c known =
-      let told = joined_told join first m in
+      let told = combined_told join first m in
       elim (class_from (with_told classes told) first ms c known) [
         | inl a ↦ elim (class_before classes told c a) [ inl b ↦ inl b | inr e ↦ inr (m, inl refl, e) ]
         | inr u ↦ inr (u.0, inr u.1, u.2)
       ]
 
   -- what is told of two vectors combined
-  joined_from : (B : Vector → Type 0) (x c : Vector) (m u : Option Vector) → (m ≡ Some x) ⊎ ((m ≡ None) × B x) → joined_told join m u ≡ Some c → (y : Vector) × (u ≡ Some y) × (c ≡ combined join x y)
-  joined_from B x c m u (inr none) e = absurd (none-some c (sym (ap (λ w. joined_told join w u) none.0) ∙ e))
-  joined_from B x c m None (inl some) e = absurd (none-some c (sym (ap (λ w. joined_told join w None) some) ∙ e))
-  joined_from B x c m (Some y) (inl some) e = (y, refl, sym (same_Some (combined join x y) c (sym (ap (λ w. joined_told join w (Some y)) some) ∙ e)))
+  joined_from : (B : Vector → Type 0) (x c : Vector) (m u : Option Vector) → (m ≡ Some x) ⊎ ((m ≡ None) × B x) → combined_told join m u ≡ Some c → (y : Vector) × (u ≡ Some y) × (c ≡ combined join x y)
+  joined_from B x c m u (inr none) e = absurd (none-some c (sym (ap (λ w. combined_told join w u) none.0) ∙ e))
+  joined_from B x c m None (inl some) e = absurd (none-some c (sym (ap (λ w. combined_told join w None) some) ∙ e))
+  joined_from B x c m (Some y) (inl some) e = (y, refl, sym (same_Some (combined join x y) c (sym (ap (λ w. combined_told join w (Some y)) some) ∙ e)))
 
   thin_told : (B : Vector → Type 0) (ms : List (Option Vector)) (xs : List Vector) (y : Vector) → Thin B ms xs → In (Some y) ms → In y xs
   thin_told B [] xs y t i = absurd i
@@ -102,9 +102,9 @@ module _ (join : Join) where
   thin_told B (m ∷ ms) (x ∷ xs) y t (inl e) = elim t.0 [ inl f ↦ inl (same_Some y x (e ∙ f)) | inr n ↦ absurd (none-some y (sym (e ∙ n.0))) ]
   thin_told B (m ∷ ms) (x ∷ xs) y t (inr i) = inr (thin_told (λ w. B w ⊎ (w ≡ x)) ms xs y t.1 i)
 
-  told_joined : (x y c : Vector) (B : Vector → Type 0) (m : Option Vector) → (m ≡ Some y) ⊎ ((m ≡ None) × B y) → joined_told join (Some x) m ≡ Some c → c ≡ combined join x y
-  told_joined x y c B m (inl some) e = sym (same_Some (combined join x y) c (sym (ap (joined_told join (Some x)) some) ∙ e))
-  told_joined x y c B m (inr none) e = absurd (none-some c (sym (ap (joined_told join (Some x)) none.0) ∙ e))
+  told_joined : (x y c : Vector) (B : Vector → Type 0) (m : Option Vector) → (m ≡ Some y) ⊎ ((m ≡ None) × B y) → combined_told join (Some x) m ≡ Some c → c ≡ combined join x y
+  told_joined x y c B m (inl some) e = sym (same_Some (combined join x y) c (sym (ap (combined_told join (Some x)) some) ∙ e))
+  told_joined x y c B m (inr none) e = absurd (none-some c (sym (ap (combined_told join (Some x)) none.0) ∙ e))
 
   -- ---- the triples under a first vector
 
@@ -115,20 +115,20 @@ module _ (join : Join) where
   -- x and y combined, with each vector after y
   row_thin : (x y : Vector) (B K : Vector → Type 0) (classes : List Class) (m : Option Vector) (ms : List (Option Vector)) (ys : List Vector)
       → (m ≡ Some y) ⊎ ((m ≡ None) × B y) → Thin (λ w. B w ⊎ (w ≡ y)) ms ys → K (combined join x y) → ((w z : Vector) → B w → In z (y ∷ ys) → K (combined join (combined join x w) z)) → Gives classes K (y ∷ ys)
-      → Thin K (map (joined_told join (if_new classes (joined_told join (Some x) m))) ms) (map (combined join (combined join x y)) ys)
+      → Thin K (map (combined_told join (if_new classes (combined_told join (Some x) m))) ms) (map (combined join (combined join x y)) ys)
   row_thin x y B K classes m ms ys (inr none) rest own before gives =
-      let both : Option Vector = joined_told join (Some x) m in
-      let nothing : if_new classes both ≡ None = ap (λ u. if_new classes (joined_told join (Some x) u)) none.0 in
-      thin_none (joined_told join (if_new classes both)) (combined join (combined join x y)) (λ u. ap (λ w. joined_told join w u) nothing) K ms ys (thin_length (λ w. B w ⊎ (w ≡ y)) ms ys rest) (λ z i. before y z none.1 (inr i))
+      let both : Option Vector = combined_told join (Some x) m in
+      let nothing : if_new classes both ≡ None = ap (λ u. if_new classes (combined_told join (Some x) u)) none.0 in
+      thin_none (combined_told join (if_new classes both)) (combined join (combined join x y)) (λ u. ap (λ w. combined_told join w u) nothing) K ms ys (thin_length (λ w. B w ⊎ (w ≡ y)) ms ys rest) (λ z i. before y z none.1 (inr i))
   row_thin x y B K classes m ms ys (inl some) rest own before gives =
       let v = combined join x y in
-      let both : Option Vector = joined_told join (Some x) m in
-      let both_is : both ≡ Some v = ap (joined_told join (Some x)) some in
+      let both : Option Vector = combined_told join (Some x) m in
+      let both_is : both ≡ Some v = ap (combined_told join (Some x)) some in
       elim (cases_Bool (is_known classes v)) [
         | inl old ↦
             let known : if_new classes (Some v) ≡ None = rw old refl in
             let nothing : if_new classes both ≡ None = ap (if_new classes) both_is ∙ known in
-            thin_none (joined_told join (if_new classes both)) (combined join v) (λ u. ap (λ w. joined_told join w u) nothing) K ms ys (thin_length (λ w. B w ⊎ (w ≡ y)) ms ys rest) (λ z i. gives v old z (inr i))
+            thin_none (combined_told join (if_new classes both)) (combined join v) (λ u. ap (λ w. combined_told join w u) nothing) K ms ys (thin_length (λ w. B w ⊎ (w ≡ y)) ms ys rest) (λ z i. gives v old z (inr i))
         | inr new ↦
             let unknown : if_new classes (Some v) ≡ Some v = rw new refl in
             let told : if_new classes both ≡ Some v = ap (if_new classes) both_is ∙ unknown in
@@ -136,8 +136,8 @@ module _ (join : Join) where
               | inl b ↦ subst K (last_turned x w y) (before w y b (inl refl))
               | inr e ↦ subst (λ u. K (combined join v u)) (sym e) (subst K (sym (last_own x y)) own)
             ] in
-            thin_same K _ (map (joined_told join (Some v)) ms) _ (map (combined join v) ys) (ap (λ u. map (joined_told join u) ms) told) refl
-            (thin_row (combined join) (joined_told join) (λ a b. refl) (λ u. refl) (λ a. refl) v (λ w. B w ⊎ (w ≡ y)) K with_known ms ys rest)
+            thin_same K _ (map (combined_told join (Some v)) ms) _ (map (combined join v) ys) (ap (λ u. map (combined_told join u) ms) told) refl
+            (thin_row (combined join) (combined_told join) (λ a b. refl) (λ u. refl) (λ a. refl) v (λ w. B w ⊎ (w ≡ y)) K with_known ms ys rest)
       ]
 
   split_under : (x y : Vector) (ys : List Vector) → map (λ p. combined join (combined join x p.0) p.1) (pairs (y ∷ ys)) ≡ map (combined join (combined join x y)) ys ++ map (λ p. combined join (combined join x p.0) p.1) (pairs ys)
@@ -157,7 +157,7 @@ module _ (join : Join) where
       let row = map (combined join v) ys in
       let B' : Vector → Type 0 = λ w. B w ⊎ (w ≡ y) in
       let K' : Vector → Type 0 = λ w. K w ⊎ In w row in
-      let told = joined_told join (Some x) m in
+      let told = combined_told join (Some x) m in
       let first = row_thin x y B K classes m ms ys t.0 t.1 (own y (inl refl)) before gives in
       let in_row : (z : Vector) → In z ys → K' (combined join v z) = λ z i. inr (in_mapped (combined join v) z ys i) in
       let before' : (w z : Vector) → B w ⊎ (w ≡ y) → In z ys → K' (combined join (combined join x w) z) = λ w z either i. elim either [
@@ -177,12 +177,12 @@ module _ (join : Join) where
   none_under classes (u ∷ us) =
       let nothing : Option Vector × Option Vector → Option Vector = λ p. None in
       let with_u : Option Vector → Option Vector × Option Vector = λ w. (u, w) in
-      ap (λ t. map (joined_told join None) us ++ t) (none_under classes us)
+      ap (λ t. map (combined_told join None) us ++ t) (none_under classes us)
       ∙ sym (map-append nothing (map with_u us) (pairs us) ∙ ap (λ t. t ++ map nothing (pairs us)) (map-map nothing with_u us))
 
   -- ---- all triples
 
-  split_triples : (x : Vector) (xs : List Vector) → joined_triples join (x ∷ xs) ≡ map (λ p. combined join (combined join x p.0) p.1) (pairs xs) ++ joined_triples join xs
+  split_triples : (x : Vector) (xs : List Vector) → combined_triples join (x ∷ xs) ≡ map (λ p. combined join (combined join x p.0) p.1) (pairs xs) ++ combined_triples join xs
   split_triples x xs =
       let f : Vector × Vector × Vector → Vector = λ t. combined join (combined join t.0 t.1) t.2 in
       let with_x : Vector × Vector → Vector × Vector × Vector = λ p. (x, p.0, p.1) in
@@ -193,7 +193,7 @@ module _ (join : Join) where
       → ((y z : Vector) → B y ⊎ In y xs → B z ⊎ In z xs → K (combined join y z))
       → ((a y z : Vector) → B a → B y ⊎ In y xs → B z ⊎ In z xs → K (combined join (combined join a y) z))
       → ((c : Vector) → is_known classes c ≡ true → (z : Vector) → B z ⊎ In z xs → K (combined join c z))
-      → Thin K (told_triples join classes ms) (joined_triples join xs)
+      → Thin K (told_triples join classes ms) (combined_triples join xs)
   triples_thin B K classes [] [] t two before gives = tt
   triples_thin B K classes [] (x ∷ xs) t two before gives = absurd t
   triples_thin B K classes (m ∷ ms) [] t two before gives = absurd t
@@ -219,5 +219,5 @@ module _ (join : Join) where
             subst (λ w. K' (combined join w z)) (sym from.2) (under_x B K x xs two before from.0 z (inr there) among)
       ] in
       thin_same K _ _ _ _ refl (split_triples x xs)
-      (thin_append K _ (map f (pairs xs)) _ (joined_triples join xs) first
+      (thin_append K _ (map f (pairs xs)) _ (combined_triples join xs) first
       (triples_thin B' K' after ms xs t.1 (λ y z a b. inl (two y z (shift B x y xs a) (shift B x z xs b))) (before_three B K x xs two before) gives'))

@@ -11,18 +11,18 @@ combined And xs ys = and_bits xs ys
 combined Or xs ys = or_bits xs ys
 
 -- each two vectors of a list, combined
-abbrev pub joined_pairs : Join → List (List Bool) → List (List Bool)
-joined_pairs join rows = map (λ p. combined join p.0 p.1) (pairs rows)
+abbrev pub combined_pairs : Join → List (List Bool) → List (List Bool)
+combined_pairs join rows = map (λ p. combined join p.0 p.1) (pairs rows)
 
 -- each three vectors of a list, combined
-abbrev pub joined_triples : Join → List (List Bool) → List (List Bool)
-joined_triples join rows = map (λ p. combined join (combined join p.0 p.1) p.2) (triples rows)
+abbrev pub combined_triples : Join → List (List Bool) → List (List Bool)
+combined_triples join rows = map (λ p. combined join (combined join p.0 p.1) p.2) (triples rows)
 
 -- the vectors of the predicates of two or three atoms, as far as the bound goes: of each number the ANDs, and then the ORs
 abbrev pub more_vectors : List (List Bool) → ℕ → List (List Bool)
 more_vectors rows bound =
-    (if nat_le 2 bound then joined_pairs And rows ++ joined_pairs Or rows else [])
-    ++ (if nat_le 3 bound then joined_triples And rows ++ joined_triples Or rows else [])
+    (if nat_le 2 bound then combined_pairs And rows ++ combined_pairs Or rows else [])
+    ++ (if nat_le 3 bound then combined_triples And rows ++ combined_triples Or rows else [])
 
 -- the vectors of the predicates of up to `bound` atoms, where these are the vectors of the atoms: first that of Always
 abbrev pub vectors : ℕ → List (List Bool) → ℕ → List (List Bool)

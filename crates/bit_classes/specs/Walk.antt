@@ -56,13 +56,13 @@ new_vectors classes n [] = []
 new_vectors classes n (v ∷ vectors) = (if is_known classes v then None else Some v) ∷ new_vectors (with_vector classes (n, v)) (n + 1) vectors
 
 -- two vectors combined, where both are told
-abbrev pub joined_told : Join → Option (List Bool) → Option (List Bool) → Option (List Bool)
-joined_told join None b = None
-joined_told join (Some x) b = option_map (combined join x) b
+abbrev pub combined_told : Join → Option (List Bool) → Option (List Bool) → Option (List Bool)
+combined_told join None b = None
+combined_told join (Some x) b = option_map (combined join x) b
 
 -- each two vectors of a list combined, where both are told
 abbrev pub told_pairs : Join → List (Option (List Bool)) → List (Option (List Bool))
-told_pairs join rows = map (λ p. joined_told join p.0 p.1) (pairs rows)
+told_pairs join rows = map (λ p. combined_told join p.0 p.1) (pairs rows)
 
 -- a vector that is told, if it is new
 abbrev pub if_new : List Class → Option (List Bool) → Option (List Bool)
@@ -78,12 +78,12 @@ with_told classes (Some v) = with_vector classes (0, v)
 abbrev pub told_under : Join → List Class → Option (List Bool) → List (Option (List Bool)) → List (Option (List Bool))
 told_under join pair_classes first [] = []
 told_under join pair_classes first (m ∷ ms) =
-    map (joined_told join (if_new pair_classes (joined_told join first m))) ms ++ told_under join (with_told pair_classes (joined_told join first m)) first ms
+    map (combined_told join (if_new pair_classes (combined_told join first m))) ms ++ told_under join (with_told pair_classes (combined_told join first m)) first ms
 
 -- the classes after a first vector combined with each of a list
 abbrev pub classes_under : Join → List Class → Option (List Bool) → List (Option (List Bool)) → List Class
 classes_under join pair_classes first [] = pair_classes
-classes_under join pair_classes first (m ∷ ms) = classes_under join (with_told pair_classes (joined_told join first m)) first ms
+classes_under join pair_classes first (m ∷ ms) = classes_under join (with_told pair_classes (combined_told join first m)) first ms
 
 -- each three vectors of a list combined, where the first two of them give a new vector
 abbrev pub told_triples : Join → List Class → List (Option (List Bool)) → List (Option (List Bool))

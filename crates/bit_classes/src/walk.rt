@@ -1,7 +1,7 @@
 ghost use Rattle.std.specs.Prelude.{◌≡◌, ◌+◌, ◌<◌, ◌≤◌, ◌^◌, ◌∷◌, ◌++◌, [], length, map, option_map, Some, None, IfSome, IfOk, IfErr, OnOk, if◌then◌else◌};
 ghost use Rattle.std.specs.List.{All, enumerate_from};
 ghost use Rattle.bit_classes.specs.Vectors.{combined};
-ghost use Rattle.bit_classes.specs.Walk.{Sees, HasWidth, is_known, numbered, new_vectors, joined_told, if_new, with_told, told_pairs, told_under, classes_under, told_triples};
+ghost use Rattle.bit_classes.specs.Walk.{Sees, HasWidth, is_known, numbered, new_vectors, combined_told, if_new, with_told, told_pairs, told_under, classes_under, told_triples};
 
 use crate::class::ClassEnd;
 use crate::found::Found;
@@ -55,7 +55,7 @@ pub fn see_rows(
 }
 
 // Two rows combined, where there is a second.
-fn join_told(
+fn combine_told(
     alloc: Global,
     join: Join,
     row: &BitRow,
@@ -95,7 +95,7 @@ fn see_both(
 }
 
 // Sees a row combined with each of some others that there is, under the numbers from one on.
-fn see_joined(
+fn see_combined(
     found: &mut Found,
     join: Join,
     row: &BitRow,
@@ -105,7 +105,7 @@ fn see_joined(
     requires width { length row.now ≡ found.old.width }
     requires widths { All (HasWidth found.old.width) others.now }
     requires small { number + length others.now < 2 ^ 63 }
-    ensures { Sees found.old (numbered number (map (joined_told join (Some row.now)) others.now)) found.new result }
+    ensures { Sees found.old (numbered number (map (combined_told join (Some row.now)) others.now)) found.new result }
 {
     let mut both = row.copy(found.alloc())?;
     for (i, other) in others.iter().enumerate() {
@@ -125,10 +125,10 @@ fn see_told(
     requires width { HasWidth found.old.width row.now }
     requires widths { All (HasWidth found.old.width) others.now }
     requires small { number + length others.now < 2 ^ 63 }
-    ensures { Sees found.old (numbered number (map (joined_told join row.now) others.now)) found.new result }
+    ensures { Sees found.old (numbered number (map (combined_told join row.now) others.now)) found.new result }
 {
     match row {
-        Some(row) => see_joined(found, join, row, others, number),
+        Some(row) => see_combined(found, join, row, others, number),
         None => Ok(()),
     }
 }
@@ -188,7 +188,7 @@ fn see_pairs_under(
 {
     let mut next = number;
     for i in 0..rows.len() {
-        let combined = join_told(found.alloc(), join, first, &rows[i])?;
+        let combined = combine_told(found.alloc(), join, first, &rows[i])?;
         let both = keep_new(pairs, combined)?;
         let others = &rows[i + 1..];
         see_told(found, join, &both, others, next)?;

@@ -44,10 +44,8 @@ impl BitRow {
     pub fn full(alloc: Global, len: usize) -> Result<BitRow, OutOfMemory>
         ensures { IfOk result (λ row. row ≡ replicate len true) }
     {
-        match Vec::from_elem(alloc, true, len) {
-            Ok(bits) => BitRow::of(alloc, bits.as_slice()),
-            Err(_) => Err(OutOfMemory),
-        }
+        let bits = Vec::from_elem(alloc, true, len)?;
+        BitRow::of(alloc, bits.as_slice())
     }
 
     /// The bits that are set in both rows.
@@ -104,13 +102,10 @@ impl BitRow {
     pub fn copy(&self, alloc: Global) -> Result<BitRow, OutOfMemory>
         ensures { IfOk result (λ row. row ≡ self.now) }
     {
-        match Vec::from_slice(alloc, self.words.as_slice()) {
-            Ok(words) => Ok(BitRow {
-                words,
-                len: self.len,
-            }),
-            Err(_) => Err(OutOfMemory),
-        }
+        Ok(BitRow {
+            words: Vec::from_slice(alloc, self.words.as_slice())?,
+            len: self.len,
+        })
     }
 
     pub fn len(&self) -> usize

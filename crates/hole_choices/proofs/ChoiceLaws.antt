@@ -1,9 +1,11 @@
 -- The first predicates of classes are the standard ones.
-use Rattle.std.proofs.Common.{◌≡◌, ℕ, zero, suc, ◌+◌, Bool, true, false, not, ◌&&◌, ◌==◌, cond, List, [], ◌∷◌, ◌++◌, map, Option, Some, None, refl, sym, ap, ◌∙◌, arith, inl, inr, eq-eqb, length, get_or, ◌<◌}
+use Rattle.std.proofs.Common.{◌≡◌, ℕ, zero, suc, ◌+◌, Bool, true, false, not, ◌&&◌, ◌==◌, cond, List, [], ◌∷◌, ◌++◌, map, Option, Some, None, refl, sym, ap, ◌∙◌, arith, inl, inr, eq-eqb, length, get_or, ◌<◌, ◌≤◌}
 use Rattle.std.specs.Prelude.{filter, find, slice_get, unwrap_or}
 use Rattle.std.specs.List.{flat_map, position_or_len, enumerate_from}
 use Rattle.std.proofs.lemmas.Bool.{cases_Bool, false≢true, eqb-true}
 use Rattle.std.proofs.lemmas.List.{length-map}
+use Rattle.std.proofs.lemmas.List.Filters.{length-filter_both}
+use Rattle.std.proofs.lemmas.List.FromFn.{length-enumerate_from}
 use Rattle.predicate_core.specs.declared.atom.Atom.{Atom}
 use Rattle.value_core.specs.declared.value.Value.{Value}
 use Rattle.value_core.specs.declared.value.ColType.{ColType}
@@ -151,3 +153,22 @@ pub vectors_wide : (constants : List Value) (candidates : List Row) (atoms : Lis
 vectors_wide constants candidates [] k d below = absurd (omega (arith, below))
 vectors_wide constants candidates (a ∷ atoms) zero d below = length-map candidates (λ row. keeps constants (One a) row)
 vectors_wide constants candidates (a ∷ atoms) (suc k) d below = vectors_wide constants candidates atoms k d (omega (arith, below))
+
+-- there are no more classes than vectors
+classes_within : (vs : List (List Bool)) → length (classes_of vs) ≤ length vs
+classes_within vs =
+    let numbered = enumerate_from 0 vs in
+    let split = length-filter_both (stands_first vs) (λ e. not (stands_first vs e)) (λ e. refl) numbered in
+    omega (arith, split, length-map (filter (stands_first vs) numbered) class_of, length-enumerate_from 0 vs)
+
+-- nor than predicates
+pub classes_are_few : (constants : List Value) (candidates : List Row) (atoms : List Atom) (bound : ℕ)
+    → length (classes_of (vectors (length candidates) (map (λ a. kept_vector constants candidates (One a)) atoms) bound)) ≤ length (pred_list atoms bound)
+classes_are_few constants candidates atoms bound =
+    let vs = vectors (length candidates) (map (λ a. kept_vector constants candidates (One a)) atoms) bound in
+    let same : length vs ≡ length (pred_list atoms bound) =
+    sym (ap length (vectors_of_preds constants atoms bound candidates)) ∙ length-map (pred_list atoms bound) (kept_vector constants candidates) in
+    omega (arith, classes_within vs, same)
+
+pub not_past : (limit found same all : ℕ) → limit < found → limit ≡ all → found ≡ same → same ≤ all → ⊥
+not_past limit found same all past is equal few = omega arith

@@ -4,7 +4,7 @@ ghost use Rattle.predicate_core.specs.declared.pred.Pred.TheVariants.{One};
 ghost use Rattle.bit_classes.specs.Laws.{kept_vector};
 ghost use Rattle.hole_choices.specs.Choices.{choices_of, class_choice};
 
-use bit_classes::{Class, classes};
+use bit_classes::{Class, ClassEnd, classes};
 use bit_rows::BitRow;
 use predicate_core::{Atom, Pred, PredList, atoms, keeps, preds};
 use sqlite_items::Items;
@@ -100,8 +100,9 @@ pub fn choices(
     }
     let rows = atom_rows(alloc, constants, candidates, atoms.as_slice())?;
     let list = preds(alloc, atoms.as_slice(), bound)?;
-    match classes(alloc, candidates.len(), rows.as_slice(), bound, u64::MAX) {
+    match classes(alloc, candidates.len(), rows.as_slice(), bound, list.len()) {
         Ok(found) => class_choices(alloc, &list, found.as_slice()),
-        Err(_) => Err(OutOfMemory),
+        Err(ClassEnd::OutOfMemory) => Err(OutOfMemory),
+        Err(ClassEnd::More) => unreachable!(),
     }
 }

@@ -161,8 +161,6 @@ pub fn atoms(
     ensures { IfOk result (λ atoms. atoms ≡ atom_list types.now constants.now) }
 {
     let mut atoms = Items::new(alloc);
-    match push_atoms(&mut atoms, types, constants) {
-        Ok(()) => Ok(atoms),
-        Err(_) => Err(OutOfMemory),
-    }
+    push_atoms(&mut atoms, types, constants)?;
+    Ok(atoms)
 }

@@ -2,7 +2,7 @@ use Rattle.std.proofs.Common.{refl, ap, ◌+◌, ◌-◌, Option, List, Bool, le
 use Rattle.std.proofs.lemmas.List.{take_rest, length-drop}
 use Rattle.std.proofs.lemmas.List.Elements.{All-drop}
 use Rattle.std.proofs.lemmas.Result.{err_from_is_err_and}
-use Rattle.bit_classes.specs.Walk.{Walk, HasWidth, numbered, joined_told, told_pairs}
+use Rattle.bit_classes.specs.Walk.{Walk, HasWidth, numbered, combined_told, told_pairs}
 use Rattle.bit_classes.proofs.WalkLaws.{way_goes_on, way_ends, way_stops}
 use Rattle.bit_classes.proofs.SplitLaws.{pairs_split, pairs_end, HasWidth-read}
 use Rattle.bit_classes.proofs.walk.see_pairs.Goals as goal
@@ -23,7 +23,7 @@ see_told-requires-clause-widths c =
 pub loop-i-preserved : goal.loop-i-preserved
 loop-i-preserved c =
     let rows = c.args.rows.now in
-    let g : Option (List Bool) → Option (List Bool) → Option (List Bool) = joined_told c.args.join in
+    let g : Option (List Bool) → Option (List Bool) → Option (List Bool) = combined_told c.args.join in
     let i = c.loop-i.i in
     let row = c.index-rows-i.result in
     let others = drop (i + 1) rows in
@@ -38,7 +38,7 @@ loop-i-preserved c =
 pub returns-in_err-see_told : goal.returns-in_err-see_told
 returns-in_err-see_told c =
     let rows = c.args.rows.now in
-    let g : Option (List Bool) → Option (List Bool) → Option (List Bool) = joined_told c.args.join in
+    let g : Option (List Bool) → Option (List Bool) → Option (List Bool) = combined_told c.args.join in
     let i = c.loop-i.i in
     let row = c.index-rows-i.result in
     let others = drop (i + 1) rows in
@@ -52,6 +52,6 @@ returns-in_err-see_told c =
 pub returns : goal.returns
 returns c =
     let rows = c.args.rows.now in
-    let g : Option (List Bool) → Option (List Bool) → Option (List Bool) = joined_told c.args.join in
+    let g : Option (List Bool) → Option (List Bool) → Option (List Bool) = combined_told c.args.join in
     let done = pairs_end g rows c.loop-i.next c.loop-i.i c.loop-i-test.false in
     way_ends c.args.found.now c.loop-i.found (numbered c.args.number (told_pairs c.args.join rows)) (rw done at c.loop-i.invariant.0)

@@ -1,9 +1,9 @@
 use Rattle.std.proofs.Common.{sym, ◌+◌, Option, Some, [], ◌∷◌, List, Bool, map, drop}
 use Rattle.std.proofs.lemmas.Result.{err_from_is_err_and}
-use Rattle.bit_classes.specs.Walk.{numbered, joined_told}
+use Rattle.bit_classes.specs.Walk.{numbered, combined_told}
 use Rattle.bit_classes.proofs.WalkLaws.{way_goes_on, way_ends, way_stops}
 use Rattle.bit_classes.proofs.SplitLaws.{mapped_split, mapped_end, same_width, HasWidth-read, add_more}
-use Rattle.bit_classes.proofs.walk.see_joined.Goals as goal
+use Rattle.bit_classes.proofs.walk.see_combined.Goals as goal
 
 pub see_both-requires-clause-widths : goal.see_both-requires-clause-widths
 see_both-requires-clause-widths c =
@@ -13,7 +13,7 @@ see_both-requires-clause-widths c =
 pub loop-i-preserved : goal.loop-i-preserved
 loop-i-preserved c =
     let others = c.args.others.now in
-    let f : Option (List Bool) → Option (List Bool) = joined_told c.args.join (Some c.args.row.now) in
+    let f : Option (List Bool) → Option (List Bool) = combined_told c.args.join (Some c.args.row.now) in
     let n = c.args.number in
     let i = c.loop-i.i in
     let split = mapped_split f others (n + i) (n + (i + 1)) i c.index-others-i.result c.loop-i-test.true c.index-others-i.is (sym (add_more n i)) in
@@ -26,7 +26,7 @@ loop-i-preserved c =
 pub returns-in_err-see_both : goal.returns-in_err-see_both
 returns-in_err-see_both c =
     let others = c.args.others.now in
-    let f : Option (List Bool) → Option (List Bool) = joined_told c.args.join (Some c.args.row.now) in
+    let f : Option (List Bool) → Option (List Bool) = combined_told c.args.join (Some c.args.row.now) in
     let n = c.args.number in
     let i = c.loop-i.i in
     let split = mapped_split f others (n + i) (n + (i + 1)) i c.index-others-i.result c.loop-i-test.true c.index-others-i.is (sym (add_more n i)) in
@@ -38,7 +38,7 @@ returns-in_err-see_both c =
 pub returns : goal.returns
 returns c =
     let others = c.args.others.now in
-    let f : Option (List Bool) → Option (List Bool) = joined_told c.args.join (Some c.args.row.now) in
+    let f : Option (List Bool) → Option (List Bool) = combined_told c.args.join (Some c.args.row.now) in
     let n = c.args.number in
     let i = c.loop-i.i in
     let done = mapped_end f others (n + i) i c.loop-i-test.false in
