@@ -1,3 +1,4 @@
 pub mod AscendingLaws
 pub mod KeyLaws
 pub mod MapLaws
+pub mod TreeLaws

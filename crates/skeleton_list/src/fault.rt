@@ -2,7 +2,7 @@ use std::alloc::{AllocError, AllocFailed};
 use value_core::OutOfMemory;
 
 /// Why skeletons aren't listed: there are more than there is room for, or memory ran out.
-#[derive(Clone, Copy, Debug, PartialEq, Eq)]
+#[derive(Clone, Copy)]
 pub enum ListFault {
     TooMany,
     OutOfMemory,

@@ -15,7 +15,7 @@ use table_core::{Task, TaskParts};
 use value_core::OutOfMemory;
 
 // Levels of skeletons, and for how many skeletons more there is room.
-#[derive(Debug, Drop)]
+#[derive(Drop)]
 struct Levels {
     levels: Items<Items<Skeleton>>,
     room: usize,

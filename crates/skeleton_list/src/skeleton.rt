@@ -2,7 +2,7 @@ ghost use Rattle.std.specs.Prelude.{◌≡◌, IfOk};
 ghost use Rattle.std.specs.Cmp.Lexicographic.{pointwise};
 ghost use Rattle.value_core.specs.Value.{same_type};
 ghost use Rattle.query_core.specs.Grammar.{takes_filter};
-ghost use Rattle.query_core.specs.Tree.{base, filter};
+ghost use Rattle.query_core.specs.Tree.{base, filter, group};
 ghost use Rattle.query_core.specs.View.{tree};
 ghost use Rattle.skeleton_list.specs.Listed.{listed, are_few, are_in_order, pair_in_order, may_meet, met, met_tree, met_types, group_on, Listed};
 ghost use Rattle.skeleton_list.specs.View.{plain};
@@ -16,7 +16,7 @@ use table_core::TaskParts;
 use value_core::{ColType, OutOfMemory, concatenated, copied};
 
 /// A skeleton with the table numbers of its leaves and the types of its columns.
-#[derive(Debug, Drop)]
+#[derive(Drop)]
 pub struct Skeleton {
     pub node: Node,
     pub leaves: Items<u32>,
@@ -42,7 +42,15 @@ fn met_node(alloc: Global, how: Meeting, a: &Node, b: &Node) -> Result<Node, Out
     }
 }
 
-// The types of its columns.
+// The group over a node.
+fn group_node(alloc: Global, child: &Node, keys: &[usize], agg: &Agg) -> Result<Node, OutOfMemory>
+    ensures { IfOk result (λ n. tree n ≡ group (tree child.now) keys.now agg.now) }
+{
+    let child = child.boxed(alloc)?;
+    Ok(Node::Group(child, copied(alloc, keys)?, *agg))
+}
+
+// The types of the columns of two parts that meet so.
 fn met_types(
     alloc: Global,
     how: Meeting,
@@ -63,9 +71,9 @@ impl Skeleton {
         ensures { IfOk result (λ s. plain s ≡ listed task.now (base table)) }
     {
         Ok(Skeleton {
-            node: Node::Base(table),
             leaves: copied(alloc, &[table])?,
             types: input_types(alloc, task.inputs.as_slice(), table as usize)?,
+            node: Node::Base(table),
         })
     }
 
@@ -81,9 +89,9 @@ impl Skeleton {
         ensures { IfOk result (λ s. plain s ≡ record { tree = filter (tree self.now.node) Pred.Always; leaves = self.now.leaves; types = self.now.types }) }
     {
         Ok(Skeleton {
-            node: Node::Filter(self.node.boxed(alloc)?, Pred::Always),
             leaves: copied(alloc, self.leaves.as_slice())?,
             types: copied(alloc, self.types.as_slice())?,
+            node: Node::Filter(self.node.boxed(alloc)?, Pred::Always),
         })
     }
 
@@ -142,9 +150,9 @@ impl Skeleton {
         ensures { IfOk result (λ s. plain s ≡ met how (plain self.now) (plain other.now)) }
     {
         Ok(Skeleton {
-            node: met_node(alloc, how, &self.node, &other.node)?,
             leaves: concatenated(alloc, self.leaves.as_slice(), other.leaves.as_slice())?,
             types: met_types(alloc, how, self.types.as_slice(), other.types.as_slice())?,
+            node: met_node(alloc, how, &self.node, &other.node)?,
         })
     }
 
@@ -152,12 +160,10 @@ impl Skeleton {
     pub fn group(&self, alloc: Global, keys: &[usize], agg: &Agg) -> Result<Skeleton, OutOfMemory>
         ensures { IfOk result (λ s. plain s ≡ group_on (plain self.now) keys.now agg.now) }
     {
-        let child = self.node.boxed(alloc)?;
-        let copied_keys = copied(alloc, keys)?;
         Ok(Skeleton {
-            node: Node::Group(child, copied_keys, *agg),
             leaves: copied(alloc, self.leaves.as_slice())?,
             types: group_types(alloc, self.types.as_slice(), keys, agg)?,
+            node: group_node(alloc, &self.node, keys, agg)?,
         })
     }
 }
