@@ -1,4 +1,4 @@
-ghost use Rattle.std.specs.Prelude.{◌≡◌, not, count_by, IfSome};
+ghost use Rattle.std.specs.Prelude.{◌≡◌, ◌≤◌, ◌^◌, not, count_by, MatchOption};
 ghost use Rattle.std.specs.List.{list_any, range_with_len};
 ghost use Rattle.predicate_core.specs.Equal.{uses_constant};
 ghost use Rattle.query_core.specs.Rank.{tree_atoms, tree_cost, unused_constants};
@@ -38,9 +38,9 @@ pub fn unused_constants(task: &TaskParts, node: &Node) -> usize
         .count()
 }
 
-/// The cost of a tree, nothing where it leaves 64 bits.
+/// The cost of a tree, nothing exactly where it leaves 64 bits.
 pub fn tree_cost(node: &Node) -> Option<u64>
-    ensures { IfSome result (λ n. n ≡ tree_cost (tree node.now)) }
+    ensures { MatchOption result (2 ^ 64 ≤ tree_cost (tree node.now)) (λ n. n ≡ tree_cost (tree node.now)) }
 {
     match node {
         Node::Base(_) => Some(1),

@@ -1,4 +1,4 @@
-ghost use Rattle.std.specs.Prelude.{◌≡◌, ◌+◌, IfOk, IfSome};
+ghost use Rattle.std.specs.Prelude.{◌≡◌, ◌+◌, ◌≤◌, ◌^◌, IfOk, IsErr, MatchOption, Ok};
 ghost use Rattle.query_core.specs.Rank.{Key, key, key_order, before, distinct_cost, tree_cost};
 ghost use Rattle.rank_core.specs.View.{with_numbers};
 ghost use Rattle.query_core.specs.View.{tree, select};
@@ -38,11 +38,21 @@ fn distinct_cost(distinct: bool) -> u64
     if distinct { 1 } else { 0 }
 }
 
-// The cost of a query, nothing where it leaves 64 bits.
+// The cost of a query, nothing exactly where it leaves 64 bits.
 fn query_cost(query: &Query) -> Option<u64>
-    ensures { IfSome result (λ n. n ≡ tree_cost (tree query.now.body) + distinct_cost query.now.distinct) }
+    ensures { MatchOption result (2 ^ 64 ≤ tree_cost (tree query.now.body) + distinct_cost query.now.distinct) (λ n. n ≡ tree_cost (tree query.now.body) + distinct_cost query.now.distinct) }
 {
     tree_cost(&query.body)?.checked_add(distinct_cost(query.distinct))
+}
+
+// A cost that has 64 bits; only where it has more memory is said to be wanting.
+fn known(cost: Option<u64>) -> Result<u64, OutOfMemory>
+    ensures { MatchOption cost (IsErr result) (λ n. result ≡ Ok n) }
+{
+    match cost {
+        Some(cost) => Ok(cost),
+        None => Err(OutOfMemory),
+    }
 }
 
 /// The key of a query, with the number of its skeleton and the numbers of its predicates as they are handed in.
@@ -57,9 +67,7 @@ pub fn key(
 ) -> Result<RankKey, OutOfMemory>
     ensures { IfOk result (λ k. k ≡ with_numbers numbers.now (key task.now skeleton (select query.now))) }
 {
-    let Some(cost) = query_cost(query) else {
-        return Err(OutOfMemory);
-    };
+    let cost = known(query_cost(query))?;
     let unused = unused_constants(task, &query.body);
     Ok(RankKey {
         unused,

@@ -1,4 +1,4 @@
-ghost use Rattle.std.specs.Prelude.{◌≡◌, OnOk, map};
+ghost use Rattle.std.specs.Prelude.{◌≡◌, OnErr, OnOk, map};
 ghost use Rattle.query_core.specs.Answers.{ascending, comes_before};
 ghost use Rattle.rank_core.specs.View.{ranked_query};
 
@@ -13,12 +13,10 @@ pub struct Ranked {
     pub query: Query,
 }
 
-/// Puts answers into the ascending order of their keys.
+/// Puts answers into the ascending order of their keys; where memory is wanting, they stay as they were.
 pub fn sort(list: &mut Vec<Ranked>) -> Result<(), OutOfMemory>
-    ensures { OnOk result (map ranked_query list.new.items ≡ ascending comes_before (map ranked_query list.old.items)) }
+    ensures sorted { OnOk result (map ranked_query list.new.items ≡ ascending comes_before (map ranked_query list.old.items)) }
+    ensures unchanged { OnErr result (list.new.items ≡ list.old.items) }
 {
-    match list.sort_by(|a, b| key_order(&a.key, &b.key)) {
-        Ok(()) => Ok(()),
-        Err(_) => Err(OutOfMemory),
-    }
+    Ok(list.sort_by(|a, b| key_order(&a.key, &b.key))?)
 }
