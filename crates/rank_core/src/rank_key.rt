@@ -10,7 +10,7 @@ use std::alloc::Global;
 use std::cmp::Ordering;
 use std::marker::Model;
 use table_core::TaskParts;
-use value_core::{OutOfMemory, copied};
+use value_core::{OutOfMemory, copied, held};
 
 /// What queries are ranked by: unused constants, cost, skeleton, predicate numbers, map and distinct.
 #[derive(Debug, Drop)]
@@ -45,16 +45,6 @@ fn query_cost(query: &Query) -> Option<u64>
     tree_cost(&query.body)?.checked_add(distinct_cost(query.distinct))
 }
 
-// A cost that has 64 bits; only where it has more memory is said to be wanting.
-fn known(cost: Option<u64>) -> Result<u64, OutOfMemory>
-    ensures { MatchOption cost (IsErr result) (λ n. result ≡ Ok n) }
-{
-    match cost {
-        Some(cost) => Ok(cost),
-        None => Err(OutOfMemory),
-    }
-}
-
 /// The key of a query, with the number of its skeleton and the numbers of its predicates as they are handed in.
 ///
 /// A query whose cost leaves 64 bits has more nodes than memory can hold, so it is answered as want of memory.
@@ -67,7 +57,7 @@ pub fn key(
 ) -> Result<RankKey, OutOfMemory>
     ensures { IfOk result (λ k. k ≡ with_numbers numbers.now (key task.now skeleton (select query.now))) }
 {
-    let cost = known(query_cost(query))?;
+    let cost = held(query_cost(query))?;
     let unused = unused_constants(task, &query.body);
     Ok(RankKey {
         unused,

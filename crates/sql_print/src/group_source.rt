@@ -8,7 +8,7 @@ use crate::push::{push_between, push_bytes};
 use query_core::Agg;
 use sqlite_items::Items;
 use std::alloc::Global;
-use value_core::{Bytes, OutOfMemory};
+use value_core::{Bytes, OutOfMemory, held};
 
 // Appends an aggregate, which begins with these words, over a column of these texts.
 fn push_over(
@@ -116,8 +116,6 @@ pub fn group_source(
 {
     let mut out = Vec::new(alloc);
     push_group(alloc, &mut out, part, keys, agg)?;
-    let Some(width) = keys.len().checked_add(1) else {
-        return Err(OutOfMemory);
-    };
+    let width = held(keys.len().checked_add(1))?;
     enclosed(alloc, out.as_slice(), width, part.next)
 }

@@ -7,7 +7,7 @@ use predicate_core::Pred;
 use sqlite_items::Items;
 use std::alloc::Global;
 use std::marker::Model;
-use value_core::{Bytes, OutOfMemory, Value};
+use value_core::{Bytes, OutOfMemory, Value, held};
 
 /// Where a part stands: among sources, or alone after `FROM`.
 #[derive(Clone, Copy, Debug, PartialEq, Eq)]
@@ -36,10 +36,7 @@ impl Model for Printed {
 pub fn after(number: u64) -> Result<u64, OutOfMemory>
     ensures { IfOk result (λ next. next ≡ number + 1) }
 {
-    match number.checked_add(1) {
-        Some(next) => Ok(next),
-        None => Err(OutOfMemory),
-    }
+    held(number.checked_add(1))
 }
 
 // Appends the alias of this number.

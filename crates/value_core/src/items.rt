@@ -12,7 +12,11 @@ pub fn copied<T: Copy>(alloc: Global, items: &[T]) -> Result<Items<T>, OutOfMemo
 }
 
 /// The elements of two slices, one after the other.
-pub fn concatenated<T: Copy + Drop>(alloc: Global, a: &[T], b: &[T]) -> Result<Items<T>, OutOfMemory>
+pub fn concatenated<T: Copy + Drop>(
+    alloc: Global,
+    a: &[T],
+    b: &[T],
+) -> Result<Items<T>, OutOfMemory>
     ensures { IfOk result (λ out. out ≡ a.now ++ b.now) }
 {
     let mut out = copied(alloc, a)?;

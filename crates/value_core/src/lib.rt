@@ -12,7 +12,7 @@ mod word;
 
 pub use bytes::Bytes;
 pub use comparison::{CmpOp, Truth, compare, order, order_is_total, same, same_is_equality};
-pub use fault::OutOfMemory;
+pub use fault::{OutOfMemory, held};
 pub use integer::read_int;
 pub use items::{concatenated, copied};
 pub use text::is_text;
