@@ -1,4 +1,4 @@
-//! Plain listing: every query of the grammar is looked at, and the answers are put into order.
+//! Plain listing: the skeletons are gone through one by one, and the answers of each are put into order.
 #![tactic(auto)]
 
 mod answers;
