@@ -15,32 +15,33 @@ fn every(alloc: Global, len: usize, step: usize) -> Result<BitRow, Failed> {
     Ok(BitRow::of(alloc, bits.as_slice())?)
 }
 
-// The bits that are set in two rows, in both and in one of them.
+// How many bits are set in two rows, in both and in one of them.
 fn joined(rt: &impl Print, alloc: Global, a: &BitRow, b: &BitRow) -> Result<(), Failed>
     requires { length a.now ≡ length b.now }
 {
-    let both = a.and(alloc, b)?;
-    let either = a.or(alloc, b)?;
-    println!(rt;
-        "{} bits: {} and {} are set, {} in both, {} in one",
-        a.len(),
-        a.ones(),
-        b.ones(),
-        both.ones(),
-        either.ones()
-    )?;
+    println!(rt; "{} bits: {} and {} are set", a.len(), a.ones(), b.ones())?;
+    let both = a.and(alloc, b)?.ones();
+    let either = a.or(alloc, b)?.ones();
+    println!(rt; "  {both} in both, {either} in one")?;
     Ok(())
 }
 
 // The same in the place of another row.
-fn joined_in_place(rt: &impl Print, alloc: Global, a: &BitRow, b: &BitRow) -> Result<(), Failed>
+fn both_in_place(rt: &impl Print, alloc: Global, a: &BitRow, b: &BitRow) -> Result<(), Failed>
     requires { length a.now ≡ length b.now }
 {
-    let mut both = a.copy(alloc)?;
-    both.set_and(a, b);
-    let mut either = a.copy(alloc)?;
-    either.set_or(a, b);
-    println!(rt; "in place {} and {}", both.ones(), either.ones())?;
+    let mut row = a.copy(alloc)?;
+    row.set_and(a, b);
+    println!(rt; "  {} in both, in place", row.ones())?;
+    Ok(())
+}
+
+fn either_in_place(rt: &impl Print, alloc: Global, a: &BitRow, b: &BitRow) -> Result<(), Failed>
+    requires { length a.now ≡ length b.now }
+{
+    let mut row = a.copy(alloc)?;
+    row.set_or(a, b);
+    println!(rt; "  {} in one, in place", row.ones())?;
     Ok(())
 }
 
@@ -61,7 +62,8 @@ fn pair(rt: &impl Print, alloc: Global, case: &(usize, usize, usize)) -> Result<
         return Err(Failed::BadSample);
     }
     joined(rt, alloc, &a, &b)?;
-    joined_in_place(rt, alloc, &a, &b)
+    both_in_place(rt, alloc, &a, &b)?;
+    either_in_place(rt, alloc, &a, &b)
 }
 
 // The places of the bits that are set, of one that is past the end, and whether all are.
@@ -82,9 +84,14 @@ fn read(rt: &impl Print, alloc: Global) -> Result<(), Failed> {
     Ok(())
 }
 
-pub fn samples(rt: &impl Print, alloc: Global) -> Result<(), Failed> {
-    for case in PAIRS {
+fn pairs(rt: &impl Print, alloc: Global, cases: &[(usize, usize, usize)]) -> Result<(), Failed> {
+    for case in cases {
         pair(rt, alloc, case)?;
     }
+    Ok(())
+}
+
+pub fn samples(rt: &impl Print, alloc: Global) -> Result<(), Failed> {
+    pairs(rt, alloc, PAIRS)?;
     read(rt, alloc)
 }

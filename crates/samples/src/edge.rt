@@ -39,13 +39,17 @@ pub fn write<S: Sink>(rt: &impl Print, sink: &mut S, bytes: &[u8]) -> Result<(),
     Ok(())
 }
 
-// The same of a sink in memory that has room for 5 bytes, takes 2 at once, and whose write of this number fails.
-fn write_memory(rt: &impl Print, alloc: Global, fail: u64) -> Result<(), Failed> {
-    let mut sink = MemSink::new(alloc, 5, 2, fails(alloc, fail)?)?;
-    write(rt, &mut sink, b"abc")?;
-    write(rt, &mut sink, b"defg")?;
+// What a sink in memory takes of two writes.
+fn written(rt: &impl Print, sink: &mut MemSink) -> Result<(), Failed> {
+    write(rt, sink, b"abc")?;
+    write(rt, sink, b"defg")?;
     println!(rt; "written: {}", text(sink.bytes()))?;
     Ok(())
+}
+
+// The same where there is room for 5 bytes, 2 are taken at once, and the write of this number fails.
+fn write_memory(rt: &impl Print, alloc: Global, fail: u64) -> Result<(), Failed> {
+    written(rt, &mut MemSink::new(alloc, 5, 2, fails(alloc, fail)?)?)
 }
 
 pub fn samples(rt: &impl Print, alloc: Global) -> Result<(), Failed> {

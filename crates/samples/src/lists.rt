@@ -51,6 +51,15 @@ fn stepped(
 // A step, and the tables with the left and the right rows.
 type Case = (Step, &'static str, &'static str);
 
+// The rows that a step gave.
+fn given(rt: &impl Print, step: &Step, rows: Option<&[Tuple]>) -> Result<(), Failed> {
+    match rows {
+        Some(rows) => println!(rt; "{step:?}:{}", Rows(rows))?,
+        None => println!(rt; "{step:?} leaves 64 bits")?,
+    }
+    Ok(())
+}
+
 fn shown(
     rt: &impl Print,
     alloc: Global,
@@ -59,9 +68,13 @@ fn shown(
 ) -> Result<(), Failed> {
     let left = table(alloc, "l", left)?;
     let right = table(alloc, "r", right)?;
-    match stepped(alloc, ones, step, left.tuples(), right.tuples())? {
-        Some(rows) => println!(rt; "{step:?}:{}", Rows(rows.as_slice()))?,
-        None => println!(rt; "{step:?} leaves 64 bits")?,
+    let rows = stepped(alloc, ones, step, left.tuples(), right.tuples())?;
+    given(rt, step, rows.as_ref().map(|rows| rows.as_slice()))
+}
+
+fn all_shown(rt: &impl Print, alloc: Global, ones: &[Value], cases: &[Case]) -> Result<(), Failed> {
+    for case in cases {
+        shown(rt, alloc, ones, case)?;
     }
     Ok(())
 }
@@ -159,15 +172,17 @@ fn keeps_all(rt: &impl Print, ones: &[Value], table: &Table) -> Result<(), Faile
     Ok(())
 }
 
-pub fn samples(rt: &impl Print, alloc: Global) -> Result<(), Failed> {
-    let ones = values(alloc, "1")?;
-    for case in CASES {
-        shown(rt, alloc, ones.as_slice(), case)?;
-    }
-    let rows = table(alloc, "t", TABLE)?;
-    keeps_all(rt, ones.as_slice(), &rows)?;
-    for output in OUTPUTS {
-        gives(rt, alloc, &rows, &table(alloc, "o", output)?)?;
+fn all_given(rt: &impl Print, alloc: Global, rows: &Table, outputs: &[&str]) -> Result<(), Failed> {
+    for output in outputs {
+        gives(rt, alloc, rows, &table(alloc, "o", output)?)?;
     }
     Ok(())
+}
+
+pub fn samples(rt: &impl Print, alloc: Global) -> Result<(), Failed> {
+    let ones = values(alloc, "1")?;
+    all_shown(rt, alloc, ones.as_slice(), CASES)?;
+    let rows = table(alloc, "t", TABLE)?;
+    keeps_all(rt, ones.as_slice(), &rows)?;
+    all_given(rt, alloc, &rows, OUTPUTS)
 }

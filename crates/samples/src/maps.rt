@@ -3,6 +3,7 @@
 use crate::fault::Failed;
 use crate::make::table;
 use map_choices::fitting_maps;
+use sqlite_items::Items;
 use std::alloc::Global;
 use value_core::ColType;
 
@@ -22,17 +23,22 @@ const CASES: &[(&str, &str)] = &[
     ("a# b#", "a# b#"),
 ];
 
+// Each of these maps.
+fn listed(rt: &impl Print, maps: &[Items<usize>]) -> Result<(), Failed> {
+    println!(rt; "{} fit", maps.len())?;
+    for map in maps {
+        println!(rt; "  {:?}", map.as_slice())?;
+    }
+    Ok(())
+}
+
 // The maps that fit over two columns of numbers and one of texts.
 fn fitting(rt: &impl Print, alloc: Global, body: &str, output: &str) -> Result<(), Failed> {
     let types = [ColType::Int, ColType::Int, ColType::Text];
     let body = table(alloc, "body", body)?;
     let output = table(alloc, "output", output)?;
     let maps = fitting_maps(alloc, &types, body.tuples(), &output)?;
-    println!(rt; "{} fit", maps.len())?;
-    for map in maps.as_slice() {
-        println!(rt; "  {:?}", map.as_slice())?;
-    }
-    Ok(())
+    listed(rt, maps.as_slice())
 }
 
 pub fn samples(rt: &impl Print, alloc: Global) -> Result<(), Failed> {

@@ -77,14 +77,18 @@ fn status<R: Threads + Sync>(
     Ok(scythe(rt, alloc, words, &mut folder, out, err, &OpenGate).status())
 }
 
+fn written(rt: &impl Print, status: u8, out: &MemSink, err: &MemSink) -> Result<(), Failed> {
+    println!(rt; "status {status}: {:?}", text(out.bytes()))?;
+    println!(rt; "  {:?}", text(err.bytes()))?;
+    Ok(())
+}
+
 // The status of a run, and what it wrote.
 fn shown<R: Print + Threads + Sync>(rt: &R, alloc: Global, run: &Run) -> Result<(), Failed> {
     let mut out = sink(alloc, run.write)?;
     let mut err = sink(alloc, run.line)?;
     let status = status(rt, alloc, run, &mut out, &mut err)?;
-    println!(rt; "status {status}: {:?}", text(out.bytes()))?;
-    println!(rt; "  {:?}", text(err.bytes()))?;
-    Ok(())
+    written(rt, status, &out, &err)
 }
 
 const RUNS: &[Run] = &[
@@ -106,6 +110,10 @@ const RUNS: &[Run] = &[
     Run { read: 3, ..LISTED },
     Run { write: 1, ..LISTED },
     Run { write: 9, ..LISTED },
+    Run {
+        write: 82,
+        ..LISTED
+    },
     Run {
         read: 2,
         line: 1,
@@ -142,38 +150,6 @@ const RUNS: &[Run] = &[
     },
 ];
 
-// Whether a run whose write of this number fails wrote all before it and nothing more.
-fn stops<R: Threads + Sync>(
-    rt: &R,
-    alloc: Global,
-    whole: &[u8],
-    number: u64,
-) -> Result<bool, Failed> {
-    let mut out = sink(alloc, number)?;
-    let mut err = sink(alloc, 0)?;
-    let status = status(rt, alloc, &LISTED, &mut out, &mut err)?;
-    Ok(status == 7 && out.bytes().len() as u64 == number - 1 && whole.starts_with(out.bytes()))
-}
-
-// Each write of a run fails in turn.
-fn each_write<R: Print + Threads + Sync>(rt: &R, alloc: Global) -> Result<(), Failed> {
-    let mut out = sink(alloc, 0)?;
-    let mut err = sink(alloc, 0)?;
-    status(rt, alloc, &LISTED, &mut out, &mut err)?;
-    let whole = out.bytes();
-    let mut stopped = 0u64;
-    for number in 0..whole.len() as u64 {
-        if stops(rt, alloc, whole, number + 1)? {
-            stopped = stopped.saturating_add(1);
-        }
-    }
-    println!(rt;
-        "of {} writes {stopped} stop the run where they fail",
-        whole.len()
-    )?;
-    Ok(())
-}
-
 // A run over a folder and sinks that never fail.
 fn sure<R: Print + Threads + Sync>(rt: &R, alloc: Global) -> Result<(), Failed> {
     let words = words(alloc, LISTED.words)?;
@@ -196,6 +172,5 @@ pub fn samples<R: Print + Threads + Sync>(rt: &R, alloc: Global) -> Result<(), F
     for run in RUNS {
         shown(rt, alloc, run)?;
     }
-    each_write(rt, alloc)?;
     sure(rt, alloc)
 }

@@ -51,11 +51,10 @@ fn stepped(alloc: Global, step: &Step, left: &Table, right: &Table) -> Result<Ev
 type Case = (Step, &'static str, &'static str);
 
 fn shown(rt: &impl Print, alloc: Global, (step, left, right): &Case) -> Result<(), Failed> {
+    println!(rt; "{step:?}:")?;
     let left = table(alloc, "l", left)?;
     let right = table(alloc, "r", right)?;
-    let eval = stepped(alloc, step, &left, &right)?;
-    println!(rt; "{step:?}:")?;
-    given(rt, &eval)
+    given(rt, &stepped(alloc, step, &left, &right)?)
 }
 
 // What a step, a tree or a query gives.

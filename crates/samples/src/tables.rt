@@ -4,7 +4,7 @@ use crate::fault::Failed;
 use crate::make::{Shape, parts, row, table};
 use crate::show::{Grid, Head};
 use std::alloc::Global;
-use table_core::{Task, TaskParts, count, has_double, same_bag};
+use table_core::{BadPart, Table, Task, count, has_double, same_bag};
 
 // Rows of which the first alone fits two columns of texts.
 const ROWS: &[&str] = &["- -", "", "1", "- - -", "1 2", "- 2"];
@@ -32,17 +32,21 @@ const BAGS: &[(&str, &str)] = &[
 ];
 
 // Whether two tables are one bag, and whether the first has a double.
+fn bags(rt: &impl Print, left: &Table, right: &Table) -> Result<(), Failed> {
+    let same = [same_bag(left, right), same_bag(right, left)];
+    let double = has_double(left);
+    println!(rt;
+        "{} and {}: {same:?}, double: {double}",
+        Grid(left),
+        Grid(right)
+    )?;
+    Ok(())
+}
+
 fn compared(rt: &impl Print, alloc: Global, left: &str, right: &str) -> Result<(), Failed> {
     let left = table(alloc, "l", left)?;
     let right = table(alloc, "r", right)?;
-    let same = [same_bag(&left, &right), same_bag(&right, &left)];
-    let double = has_double(&left);
-    println!(rt;
-        "{} and {}: {same:?}, double: {double}",
-        Grid(&left),
-        Grid(&right)
-    )?;
-    Ok(())
+    bags(rt, &left, &right)
 }
 
 // How often a row stands in a table.
@@ -156,15 +160,30 @@ const SHAPES: &[Shape] = &[
     },
 ];
 
-// A task, as its copy, or its first part that is out of the limits.
-fn limited(rt: &impl Print, alloc: Global, parts: TaskParts) -> Result<(), Failed> {
-    match Task::new(parts.copy(alloc)?) {
-        Ok(task) => {
-            let copy = task.copy(alloc)?;
-            println!(rt; "a task with {}", Grid(&copy.parts().output))?;
-        }
-        Err(bad) => println!(rt; "part {} is out of its limits", bad.part)?,
+// The output of a task's copy.
+fn accepted(rt: &impl Print, alloc: Global, task: &Task) -> Result<(), Failed> {
+    let copy = task.copy(alloc)?;
+    println!(rt; "a task with {}", Grid(&copy.parts().output))?;
+    Ok(())
+}
+
+// A task, or its first part that is out of the limits.
+fn limited(rt: &impl Print, alloc: Global, shape: &Shape) -> Result<(), Failed> {
+    match Task::new(parts(alloc, shape)?) {
+        Ok(task) => accepted(rt, alloc, &task),
+        Err(bad) => refused(rt, bad),
     }
+}
+
+fn refused(rt: &impl Print, bad: BadPart) -> Result<(), Failed> {
+    println!(rt; "part {} is out of its limits", bad.part)?;
+    Ok(())
+}
+
+// The output of the copy of a task's parts.
+fn copied(rt: &impl Print, alloc: Global, shape: &Shape) -> Result<(), Failed> {
+    let copy = parts(alloc, shape)?.copy(alloc)?;
+    println!(rt; "parts with {}", Grid(&copy.output))?;
     Ok(())
 }
 
@@ -180,7 +199,7 @@ pub fn samples(rt: &impl Print, alloc: Global) -> Result<(), Failed> {
     }
     columns(rt, alloc)?;
     for shape in SHAPES {
-        limited(rt, alloc, parts(alloc, shape)?)?;
+        limited(rt, alloc, shape)?;
     }
-    Ok(())
+    copied(rt, alloc, &LEAST)
 }

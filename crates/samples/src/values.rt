@@ -5,7 +5,7 @@ use crate::make::value;
 use crate::show::{Cell, text};
 use std::alloc::Global;
 use value_core::{
-    Bytes, CmpOp, LONGEST_WORD, Word, compare, concatenated, copied, order, read_int, same,
+    Bytes, CmpOp, LONGEST_WORD, Value, Word, compare, concatenated, copied, order, read_int, same,
 };
 
 const SPELLINGS: &[&str] = &[
@@ -44,19 +44,24 @@ const PAIRS: &[(&str, &str)] = &[
     ("ab", "ab"),
 ];
 
-// How two values compare, the second as a copy.
+// How two values compare.
+fn order_of(rt: &impl Print, a: &Value, b: &Value) -> Result<(), Failed> {
+    let order = order(a, b);
+    let same = same(a, b);
+    let truth = compare(CmpOp::Le, a, b);
+    println!(rt;
+        "{} and {}: {order:?}, same: {same}, <=: {truth:?}",
+        Cell(a),
+        Cell(b)
+    )?;
+    Ok(())
+}
+
+// The same of two words, the second as a copy.
 fn compared(rt: &impl Print, alloc: Global, left: &str, right: &str) -> Result<(), Failed> {
     let a = value(alloc, left)?;
     let b = value(alloc, right)?.copy(alloc)?;
-    let order = order(&a, &b);
-    let same = same(&a, &b);
-    let truth = compare(CmpOp::Le, &a, &b);
-    println!(rt;
-        "{} and {}: {order:?}, same: {same}, <=: {truth:?}",
-        Cell(&a),
-        Cell(&b)
-    )?;
-    Ok(())
+    order_of(rt, &a, &b)
 }
 
 const LONG: &[u8] = &[b'x'; LONGEST_WORD + 1];
