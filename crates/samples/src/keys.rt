@@ -61,34 +61,43 @@ fn ranked(alloc: Global, task: &TaskParts, case: &Case) -> Result<Ranked, Failed
     Ok(Ranked { key, query })
 }
 
+// The answers of some cases.
+fn all_ranked(alloc: Global, task: &TaskParts, cases: &[Case]) -> Result<Vec<Ranked>, Failed> {
+    let mut list = Vec::new(alloc);
+    for case in cases {
+        list.push(ranked(alloc, task, case)?)?;
+    }
+    Ok(list)
+}
+
 // The answers of the cases in the order of their keys.
 fn sorted(alloc: Global) -> Result<Vec<Ranked>, Failed> {
-    let task = parts(alloc, &SHAPE)?;
-    let mut list = Vec::new(alloc);
-    for case in CASES {
-        list.push(ranked(alloc, &task, case)?)?;
-    }
+    let mut list = all_ranked(alloc, &parts(alloc, &SHAPE)?, CASES)?;
     sort(&mut list)?;
     Ok(list)
 }
 
-// An answer's key, and how it stands to the one before it.
-fn shown(rt: &impl Print, last: &Ranked, next: &Ranked) -> Result<(), Failed> {
-    let order = key_order(&last.key, &next.key);
-    let is_before = before(&last.key, &next.key);
-    println!(rt; "{order:?}, {is_before}: {:?}", next.key)?;
-    println!(rt; "  {:?}", next.query.body)?;
+// Each answer's body and its key.
+fn listed(rt: &impl Print, list: &[Ranked]) -> Result<(), Failed> {
+    for answer in list {
+        println!(rt; "{:?}", answer.query.body)?;
+        println!(rt; "  {:?}", answer.key)?;
+    }
+    Ok(())
+}
+
+// How each answer's key stands to the next one's.
+fn ordered(rt: &impl Print, list: &[Ranked]) -> Result<(), Failed> {
+    for i in 1..list.len() {
+        let order = key_order(&list[i - 1].key, &list[i].key);
+        let is_before = before(&list[i - 1].key, &list[i].key);
+        println!(rt; "{order:?}, {is_before}")?;
+    }
     Ok(())
 }
 
 pub fn samples(rt: &impl Print, alloc: Global) -> Result<(), Failed> {
     let list = sorted(alloc)?;
-    let Some(mut last) = list.first() else {
-        return Err(Failed::BadSample);
-    };
-    for next in list.as_slice() {
-        shown(rt, last, next)?;
-        last = next;
-    }
-    Ok(())
+    listed(rt, list.as_slice())?;
+    ordered(rt, list.as_slice())
 }

@@ -118,28 +118,40 @@ pub enum Tree {
     Unite(Uniting, &'static Tree, &'static Tree),
 }
 
+fn filter(alloc: Global, child: Node, pred: Pred) -> Result<Node, Failed> {
+    Ok(Node::Filter(Boxed::new(alloc, child)?, pred))
+}
+
+fn pair(alloc: Global, kind: Pairing, a: Node, b: Node, pred: Pred) -> Result<Node, Failed> {
+    let a = Boxed::new(alloc, a)?;
+    let b = Boxed::new(alloc, b)?;
+    Ok(Node::pair(kind, a, b, pred))
+}
+
+fn group(alloc: Global, child: Node, keys: &[usize], agg: Agg) -> Result<Node, Failed> {
+    let child = Boxed::new(alloc, child)?;
+    Ok(Node::Group(child, Items::from_slice(alloc, keys)?, agg))
+}
+
+fn unite(alloc: Global, kind: Uniting, a: Node, b: Node) -> Result<Node, Failed> {
+    let a = Boxed::new(alloc, a)?;
+    let b = Boxed::new(alloc, b)?;
+    Ok(Node::unite(kind, a, b))
+}
+
 /// The tree of a constant.
 pub fn node(alloc: Global, tree: &Tree) -> Result<Node, Failed> {
     match tree {
         Tree::Base(table) => Ok(Node::Base(*table)),
-        Tree::Filter(child, pred) => {
-            let child = Boxed::new(alloc, node(alloc, child)?)?;
-            Ok(Node::Filter(child, *pred))
+        Tree::Filter(child, pred) => filter(alloc, node(alloc, child)?, *pred),
+        Tree::Pair(kind, a, b, pred) => {
+            let a = node(alloc, a)?;
+            pair(alloc, *kind, a, node(alloc, b)?, *pred)
         }
-        Tree::Pair(kind, left, right, pred) => {
-            let left = Boxed::new(alloc, node(alloc, left)?)?;
-            let right = Boxed::new(alloc, node(alloc, right)?)?;
-            Ok(Node::pair(*kind, left, right, *pred))
-        }
-        Tree::Group(child, keys, agg) => {
-            let child = Boxed::new(alloc, node(alloc, child)?)?;
-            let keys = Items::from_slice(alloc, keys)?;
-            Ok(Node::Group(child, keys, *agg))
-        }
-        Tree::Unite(kind, left, right) => {
-            let left = Boxed::new(alloc, node(alloc, left)?)?;
-            let right = Boxed::new(alloc, node(alloc, right)?)?;
-            Ok(Node::unite(*kind, left, right))
+        Tree::Group(child, keys, agg) => group(alloc, node(alloc, child)?, keys, *agg),
+        Tree::Unite(kind, a, b) => {
+            let a = node(alloc, a)?;
+            unite(alloc, *kind, a, node(alloc, b)?)
         }
     }
 }

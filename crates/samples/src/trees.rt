@@ -9,7 +9,7 @@ use query_core::{
 };
 use std::alloc::Global;
 use table_core::TaskParts;
-use value_core::CmpOp;
+use value_core::{CmpOp, ColType};
 
 const SHAPE: Shape = Shape {
     inputs: &[("l", "k n#"), ("r", "k")],
@@ -75,26 +75,35 @@ fn checked(rt: &impl Print, alloc: Global, task: &TaskParts, tree: &Tree) -> Res
     Ok(())
 }
 
+// Types, and what they are of.
+fn shown(rt: &impl Print, name: &str, types: &[ColType]) -> Result<(), Failed> {
+    println!(rt; "{name}: {types:?}")?;
+    Ok(())
+}
+
 // The types of a table's columns, and of what is made of them.
 fn types(rt: &impl Print, alloc: Global) -> Result<(), Failed> {
-    let table = table(alloc, "t", "k n#")?;
-    let types = table_types(alloc, &table)?;
-    println!(rt; "table: {:?}", types.as_slice())?;
-    let picked = picked_types(alloc, types.as_slice(), &[1, 0, 1])?;
-    println!(rt; "picked: {:?}", picked.as_slice())?;
-    let grouped = group_types(alloc, types.as_slice(), &[0], &Agg::Min(1))?;
-    println!(rt; "grouped: {:?}", grouped.as_slice())?;
-    Ok(())
+    let types = table_types(alloc, &table(alloc, "t", "k n#")?)?;
+    let types = types.as_slice();
+    shown(rt, "table", types)?;
+    shown(
+        rt,
+        "picked",
+        picked_types(alloc, types, &[1, 0, 1])?.as_slice(),
+    )?;
+    shown(
+        rt,
+        "grouped",
+        group_types(alloc, types, &[0], &Agg::Min(1))?.as_slice(),
+    )
 }
 
 // The types of an input's columns, and of a tree's.
 fn types_in(rt: &impl Print, alloc: Global, task: &TaskParts) -> Result<(), Failed> {
-    let input = input_types(alloc, task.inputs.as_slice(), 1)?;
-    println!(rt; "input: {:?}", input.as_slice())?;
+    let inputs = task.inputs.as_slice();
+    shown(rt, "input", input_types(alloc, inputs, 1)?.as_slice())?;
     let tree = node(alloc, &TREES[10])?;
-    let types = node_types(alloc, task.inputs.as_slice(), &tree)?;
-    println!(rt; "tree: {:?}", types.as_slice())?;
-    Ok(())
+    shown(rt, "tree", node_types(alloc, inputs, &tree)?.as_slice())
 }
 
 pub fn samples(rt: &impl Print, alloc: Global) -> Result<(), Failed> {
