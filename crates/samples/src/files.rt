@@ -53,10 +53,10 @@ fn table(rt: &impl Print, alloc: Global, bytes: &[u8]) -> Result<(), Failed> {
 // The keys of a table: a number up to 4, a text up to 3 bytes, an array of one or two, and whether there are others.
 fn keys(rt: &impl Print, table: &Table) -> Result<(), Failed> {
     let number = number_or(table, "number", 2, 0, 4);
-    let word = text_at(table, "text", 3).map(text);
-    let len = array_at(table, "array", 1, 2).map(|items| items.len());
+    let word = text(text_at(table, "text", 3).unwrap_or(b"no text"));
+    let has_array = array_at(table, "array", 1, 2).is_some();
     let has_only = has_only(table, &["number", "text", "array"]);
-    println!(rt; "  {number:?}, {word:?}, array {len:?}, no other key: {has_only}")?;
+    println!(rt; "  {number:?}, {word:?}, an array: {has_array}, no other key: {has_only}")?;
     Ok(())
 }
 

@@ -52,9 +52,9 @@ fn stepped(
 type Case = (Step, &'static str, &'static str);
 
 // The rows that a step gave.
-fn given(rt: &impl Print, step: &Step, rows: Option<&[Tuple]>) -> Result<(), Failed> {
+fn given(rt: &impl Print, step: &Step, rows: &Option<Items<Tuple>>) -> Result<(), Failed> {
     match rows {
-        Some(rows) => println!(rt; "{step:?}:{}", Rows(rows))?,
+        Some(rows) => println!(rt; "{step:?}:{}", Rows(rows.as_slice()))?,
         None => println!(rt; "{step:?} leaves 64 bits")?,
     }
     Ok(())
@@ -68,8 +68,11 @@ fn shown(
 ) -> Result<(), Failed> {
     let left = table(alloc, "l", left)?;
     let right = table(alloc, "r", right)?;
-    let rows = stepped(alloc, ones, step, left.tuples(), right.tuples())?;
-    given(rt, step, rows.as_ref().map(|rows| rows.as_slice()))
+    given(
+        rt,
+        step,
+        &stepped(alloc, ones, step, left.tuples(), right.tuples())?,
+    )
 }
 
 fn all_shown(rt: &impl Print, alloc: Global, ones: &[Value], cases: &[Case]) -> Result<(), Failed> {

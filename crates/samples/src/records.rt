@@ -24,7 +24,7 @@ const TEXTS: &[&str] = &[
 fn fields(rt: &impl Print, record: &Record) -> Result<(), Failed> {
     print!(rt; " /")?;
     for at in 0..record.len() {
-        print!(rt; " {:?}", record.field(at).map(text))?;
+        print!(rt; " {:?}", text(record.field(at).unwrap_or(b"no field")))?;
     }
     Ok(())
 }
