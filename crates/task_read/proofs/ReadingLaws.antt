@@ -4,6 +4,7 @@ use Rattle.io_edge.specs.Rose.{Rose}
 use Rattle.io_edge.proofs.Gains.{rose_later}
 use Rattle.table_core.specs.Rows.{TableData}
 use Rattle.table_core.specs.declared.task.TaskParts.{TaskParts}
+use Rattle.table_core.specs.declared.limits.TheConstants.{MOST_COLUMNS, MOST_ROWS}
 use Rattle.task_file.specs.declared.input.InputFile.{InputFile}
 use Rattle.task_file.specs.declared.task.TaskFile.{TaskFile}
 use Rattle.task_read.specs.Task.{table_told, input_told, inputs_told, parts_told, plan_told, task_told, limited, IsReadAsInput, IsReadAsTable, IsRead}
@@ -82,13 +83,13 @@ Tells = List ℕ → Option (List ℕ)
 
 -- the first of the inputs was read, and then the others
 pub inputs_reads : {A : Type 0} (told later : Tells) (inputs : List InputFile) (input : InputFile) (others : List InputFile) (name : List ℕ) (r : Result A TaskEnd) (old mid new : List TableData) (table : TableData)
-    → inputs ≡ input ∷ others → name ≡ input.name → WhenReady (table_told name 6 16 (told input.file)) (λ y. table ≡ y) → mid ≡ old ++ table ∷ [] → later ≡ told
+    → inputs ≡ input ∷ others → name ≡ input.name → WhenReady (table_told name MOST_COLUMNS MOST_ROWS (told input.file)) (λ y. table ≡ y) → mid ≡ old ++ table ∷ [] → later ≡ told
     → ReadsOn (inputs_told later others) mid new r → ReadsOn (inputs_told told inputs) old new r
 inputs_reads told later inputs input others name r old mid new table list named first pushed same reads =
     rw list (inputs_step (input_told told input) (inputs_told told others) r old mid new table (rw named at first) pushed (rw same at reads))
 
 pub inputs_fault : {A : Type 0} (told later : Tells) (before between after : List ℕ → ℕ) (inputs : List InputFile) (input : InputFile) (others : List InputFile) (name : List ℕ) (r : Result A TaskEnd) (table : TableData)
-    → inputs ≡ input ∷ others → name ≡ input.name → WhenReady (table_told name 6 16 (told input.file)) (λ y. table ≡ y) → later ≡ told → ((n : List ℕ) → before n ≤ between n)
+    → inputs ≡ input ∷ others → name ≡ input.name → WhenReady (table_told name MOST_COLUMNS MOST_ROWS (told input.file)) (λ y. table ≡ y) → later ≡ told → ((n : List ℕ) → before n ≤ between n)
     → IfErr r (λ end. IfReadFault end (λ f. IsReadAsInput later others f × Rose (between f) (after f)))
     → IfErr r (λ end. IfReadFault end (λ f. IsReadAsInput told inputs f × Rose (before f) (after f)))
 inputs_fault told later before between after inputs input others name r table list named first same kept fault =

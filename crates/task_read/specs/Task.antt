@@ -4,24 +4,26 @@ use Rattle.std.specs.Option.{is_none}
 use Rattle.table_core.specs.Rows.{TableData}
 use Rattle.table_core.specs.Limits.{first_bad_part}
 use Rattle.table_core.specs.declared.task.TaskParts.{TaskParts}
+use Rattle.table_core.specs.declared.limits.TheConstants.{LONGEST_FILE, MOST_COLUMNS, MOST_ROWS, MOST_OUTPUT_COLUMNS, MOST_OUTPUT_ROWS}
 use Rattle.task_file.specs.TaskFile.{task_file_of}
 use Rattle.task_file.specs.declared.input.InputFile.{InputFile}
 use Rattle.task_file.specs.declared.task.TaskFile.{TaskFile}
 use Rattle.table_read.specs.Table.{table_of}
+use Rattle.task_read.specs.declared.parts.TheConstants.{DEFAULT_SHOWN, DEFAULT_BUDGET}
 use Rattle.task_read.specs.Told.{Told, untold, refused, ready, ◌>>=◌, found, WhenReady}
 
--- the bytes of a file, of which there may be at most 65,536
+-- the bytes of a file, of which there may not be too many
 abbrev pub bytes_told : Option (List ℕ) → Told (List ℕ)
 bytes_told None = untold
-bytes_told (Some bytes) = if nat_le (length bytes) 65536 then ready bytes else refused
+bytes_told (Some bytes) = if nat_le (length bytes) LONGEST_FILE then ready bytes else refused
 
 -- the table of this name, with at most so many columns and rows, in a file
 abbrev pub table_told : List ℕ → ℕ → ℕ → Option (List ℕ) → Told TableData
 table_told name widest longest file = bytes_told file >>= (λ bytes. found (table_of name widest longest bytes))
 
--- an input: at most 6 columns and 16 rows
+-- an input, with at most so many columns and rows as one may have
 abbrev pub input_told : (List ℕ → Option (List ℕ)) → InputFile → Told TableData
-input_told told input = table_told input.name 6 16 (told input.file)
+input_told told input = table_told input.name MOST_COLUMNS MOST_ROWS (told input.file)
 
 -- the inputs, in the task's order
 abbrev pub inputs_told : (List ℕ → Option (List ℕ)) → List InputFile → Told (List TableData)
@@ -32,9 +34,9 @@ inputs_told told (input ∷ inputs) = input_told told input >>= (λ table. input
 abbrev pub output_name : List ℕ
 output_name = codes "out"
 
--- the output: at most 4 columns and 64 rows
+-- the output, likewise
 abbrev pub output_told : (List ℕ → Option (List ℕ)) → TaskFile → Told TableData
-output_told told plan = table_told output_name 4 64 (told plan.output)
+output_told told plan = table_told output_name MOST_OUTPUT_COLUMNS MOST_OUTPUT_ROWS (told plan.output)
 
 -- the parts of a task, with what stands where the task file doesn't say
 abbrev pub parts_of : TaskFile → List TableData → TableData → TaskParts
@@ -46,8 +48,8 @@ parts_of plan inputs output = record {
   ops = plan.ops;
   leaves = plan.leaves;
   atoms = plan.atoms;
-  show = 25;
-  budget = 200000;
+  show = DEFAULT_SHOWN;
+  budget = DEFAULT_BUDGET;
 }
 
 -- the tables of a task file, in this order: the inputs, then the output

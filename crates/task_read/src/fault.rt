@@ -1,3 +1,5 @@
+ghost use Rattle.std.specs.Prelude.{◌≡◌, Ok, Err, None, IfSome};
+
 use std::alloc::AllocError;
 use value_core::{Bytes, OutOfMemory};
 
@@ -29,4 +31,12 @@ impl From<AllocError> for TaskEnd {
     fn from(_fault: AllocError) -> TaskEnd {
         TaskEnd::OutOfMemory
     }
+}
+
+/// What was found, and the end of a wrong form where there was nothing.
+pub(crate) fn formed<T>(found: Option<T>) -> Result<T, TaskEnd>
+    ensures found { IfSome found (λ x. result ≡ Ok x) }
+    ensures none { found ≡ None → result ≡ Err TaskEnd.WrongForm }
+{
+    found.ok_or(TaskEnd::WrongForm)
 }

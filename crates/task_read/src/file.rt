@@ -1,4 +1,4 @@
-ghost use Rattle.std.specs.Prelude.{◌≡◌, ◌≤◌, ℕ, List, IfErr};
+ghost use Rattle.std.specs.Prelude.{◌≡◌, ◌↔◌, ◌≤◌, ℕ, List, IfErr};
 ghost use Rattle.io_edge.specs.Rose.{Rose};
 ghost use Rattle.task_read.specs.Reading.{Reads, IfReadFault, UnlessReadFault};
 ghost use Rattle.task_read.specs.Task.{bytes_told};
@@ -6,10 +6,21 @@ ghost use Rattle.task_read.specs.Task.{bytes_told};
 use crate::fault::TaskEnd;
 use io_edge::{Folder, FolderFault};
 use std::alloc::Global;
+use table_core::LONGEST_FILE;
 use value_core::Bytes;
 
-// The most bytes of a file.
-const LONGEST_FILE: usize = 65_536;
+// The end that a fault is, of a read of this file.
+fn end_of(fault: FolderFault, file: Bytes) -> TaskEnd
+    ensures failed { fault ≡ FolderFault.Failed → result ≡ TaskEnd.ReadFault file }
+    ensures long { fault ≡ FolderFault.TooLong → result ≡ TaskEnd.WrongForm }
+    ensures memory { (result ≡ TaskEnd.OutOfMemory) ↔ (fault ≡ FolderFault.OutOfMemory) }
+{
+    match fault {
+        FolderFault::Failed => TaskEnd::ReadFault { file },
+        FolderFault::TooLong => TaskEnd::WrongForm,
+        FolderFault::OutOfMemory => TaskEnd::OutOfMemory,
+    }
+}
 
 /// The bytes of a file.
 pub fn read_file<F: Folder>(alloc: Global, folder: &mut F, name: &Bytes) -> Result<Vec<u8>, TaskEnd>
@@ -23,8 +34,6 @@ pub fn read_file<F: Folder>(alloc: Global, folder: &mut F, name: &Bytes) -> Resu
     let file = Bytes::of(alloc, name.as_slice())?;
     match folder.read(alloc, name.as_slice(), LONGEST_FILE) {
         Ok(bytes) => Ok(bytes),
-        Err(FolderFault::Failed) => Err(TaskEnd::ReadFault { file }),
-        Err(FolderFault::TooLong) => Err(TaskEnd::WrongForm),
-        Err(FolderFault::OutOfMemory) => Err(TaskEnd::OutOfMemory),
+        Err(fault) => Err(end_of(fault, file)),
     }
 }

@@ -8,9 +8,14 @@ use crate::tables::{read_inputs, read_table_file};
 use io_edge::Folder;
 use sqlite_items::Items;
 use std::alloc::Global;
-use table_core::TaskParts;
+use table_core::{MOST_OUTPUT_COLUMNS, MOST_OUTPUT_ROWS, TaskParts};
 use task_file::TaskFile;
-use value_core::Word;
+use value_core::{Word, WordFault};
+
+// The most answers that are printed, and the budget, where the task file doesn't say.
+const DEFAULT_SHOWN: u32 = 25;
+
+const DEFAULT_BUDGET: u64 = 200_000;
 
 // The name of the output.
 fn output_name(alloc: Global) -> Result<Word, TaskEnd>
@@ -19,7 +24,8 @@ fn output_name(alloc: Global) -> Result<Word, TaskEnd>
 {
     match Word::of(alloc, b"out") {
         Ok(name) => Ok(name),
-        Err(_) => Err(TaskEnd::OutOfMemory),
+        Err(WordFault::BadLength { .. }) => unreachable!(),
+        Err(WordFault::OutOfMemory) => Err(TaskEnd::OutOfMemory),
     }
 }
 
@@ -38,7 +44,14 @@ pub fn read_parts<F: Folder>(
     let mut inputs = Items::new(alloc);
     read_inputs(alloc, folder, plan.inputs.as_slice(), &mut inputs)?;
     let name = output_name(alloc)?;
-    let output = read_table_file(alloc, folder, name, 4, 64, &plan.output)?;
+    let output = read_table_file(
+        alloc,
+        folder,
+        name,
+        MOST_OUTPUT_COLUMNS,
+        MOST_OUTPUT_ROWS,
+        &plan.output,
+    )?;
     Ok(TaskParts {
         inputs,
         output,
@@ -47,7 +60,7 @@ pub fn read_parts<F: Folder>(
         ops: plan.ops,
         leaves: plan.leaves,
         atoms: plan.atoms,
-        show: 25,
-        budget: 200_000,
+        show: DEFAULT_SHOWN,
+        budget: DEFAULT_BUDGET,
     })
 }

@@ -4,12 +4,12 @@ ghost use Rattle.task_read.specs.Told.{WhenReady};
 ghost use Rattle.task_read.specs.Reading.{Reads, Refuses, IfReadFault, UnlessReadFault};
 ghost use Rattle.task_read.specs.Task.{table_told, inputs_told, IsReadAsInput};
 
-use crate::fault::TaskEnd;
+use crate::fault::{TaskEnd, formed};
 use crate::file::read_file;
 use io_edge::Folder;
 use sqlite_items::Items;
 use std::alloc::Global;
-use table_core::Table;
+use table_core::{MOST_COLUMNS, MOST_ROWS, Table};
 use table_read::read_table;
 use task_file::InputFile;
 use value_core::{Bytes, Word};
@@ -30,10 +30,7 @@ pub fn read_table_file<F: Folder>(
     ensures still { UnlessReadFault result ((n : List ℕ) → F.faults folder.new n ≡ F.faults folder.old n) }
 {
     let bytes = read_file(alloc, folder, file)?;
-    match read_table(alloc, name, widest, longest, bytes.as_slice())? {
-        Some(table) => Ok(table),
-        None => Err(TaskEnd::WrongForm),
-    }
+    formed(read_table(alloc, name, widest, longest, bytes.as_slice())?)
 }
 
 /// Appends the tables of these inputs.
@@ -53,7 +50,7 @@ pub fn read_inputs<F: Folder>(
         None => Ok(()),
         Some((input, others)) => {
             let name = input.name.copy(alloc)?;
-            let table = read_table_file(alloc, folder, name, 6, 16, &input.file)?;
+            let table = read_table_file(alloc, folder, name, MOST_COLUMNS, MOST_ROWS, &input.file)?;
             out.push(table)?;
             read_inputs(alloc, folder, others, out)
         }

@@ -4,7 +4,7 @@ ghost use Rattle.task_read.specs.Told.{found};
 ghost use Rattle.task_read.specs.Reading.{Reads, IfReadFault, UnlessReadFault};
 ghost use Rattle.task_read.specs.Task.{plan_told, task_told, limited, IsRead};
 
-use crate::fault::TaskEnd;
+use crate::fault::{TaskEnd, formed};
 use crate::file::read_file;
 use crate::parts::read_parts;
 use io_edge::Folder;
@@ -22,10 +22,7 @@ fn read_plan<F: Folder>(alloc: Global, folder: &mut F, name: &Bytes) -> Result<T
     ensures still { UnlessReadFault result ((n : List ℕ) → F.faults folder.new n ≡ F.faults folder.old n) }
 {
     let bytes = read_file(alloc, folder, name)?;
-    match read_task_file(alloc, bytes.as_slice())? {
-        Some(plan) => Ok(plan),
-        None => Err(TaskEnd::WrongForm),
-    }
+    formed(read_task_file(alloc, bytes.as_slice())?)
 }
 
 // The task of these parts, where they are within their limits.
