@@ -10,7 +10,7 @@ use Rattle.task_read.specs.Task.{task_told}
 use Rattle.task_read.proofs.ReadingLaws.{ready_then}
 use Rattle.top_call.specs.Form.{is_built, built, built_task}
 use Rattle.top_call.specs.Listing.{end_of, Prints, ListsOrRefuses, Runs, RunsWords}
-use Rattle.top_call.specs.Promise.{asked_file, IfReady}
+use Rattle.top_call.specs.Promise.{asked_file, IfReady, IsRefused}
 use Rattle.top_call.specs.declared.end.End.{End}
 use Rattle.top_call.specs.declared.end.End.TheVariants.{Listed, Empty, Usage, ReadFault, WriteFault, OutOfMemory, NotYet}
 use Rattle.top_call.proofs.WriteLaws.{gained_front, unchanged_front}
@@ -92,3 +92,25 @@ pub front_words : (told : List ℕ → Option (List ℕ)) (unread unread_now : L
     → RunsWords told unread unread_now file old new before now end → IfReady (asked_file told file) (λ task. GainedFront old new (text task))
 front_words told unread unread_now None old new before now end runs = tt
 front_words told unread unread_now (Some file) old new before now end runs = front_file told unread unread_now file old new before now end runs
+
+-- of what is refused, nothing holds that holds where it is ready
+refused_not : (s : Told TaskParts) (P : TaskParts → Type 0) → IsRefused s → WhenReady s P → ⊥
+refused_not untold P r p = r
+refused_not refused P r p = p
+refused_not (ready t) P r p = r
+
+-- where the task is refused, nothing was written, whatever the end
+refused_file : (told : List ℕ → Option (List ℕ)) (unread unread_now : List ℕ → ℕ) (file : List ℕ) (old new : Option (List ℕ)) (before now : ℕ) (end : End)
+    → Runs told unread unread_now file old new before now end → IsRefused (built_task told file) → new ≡ old
+refused_file told unread unread_now file old new before now (Listed n) runs r = absurd (refused_not (built_task told file) (λ t. Prints t old new before now (Listed n)) r runs)
+refused_file told unread unread_now file old new before now Empty runs r = absurd (refused_not (built_task told file) (λ t. Prints t old new before now Empty) r runs)
+refused_file told unread unread_now file old new before now Usage runs r = absurd runs
+refused_file told unread unread_now file old new before now (ReadFault name) runs r = runs.1
+refused_file told unread unread_now file old new before now WriteFault runs r = absurd (refused_not (built_task told file) (λ t. Prints t old new before now WriteFault) r runs.0)
+refused_file told unread unread_now file old new before now OutOfMemory runs r = runs
+refused_file told unread unread_now file old new before now NotYet runs r = runs.1
+
+pub refused_words : (told : List ℕ → Option (List ℕ)) (unread unread_now : List ℕ → ℕ) (file : Option (List ℕ)) (old new : Option (List ℕ)) (before now : ℕ) (end : End)
+    → RunsWords told unread unread_now file old new before now end → IsRefused (asked_file told file) → new ≡ old
+refused_words told unread unread_now None old new before now end runs r = runs.1
+refused_words told unread unread_now (Some file) old new before now end runs r = refused_file told unread unread_now file old new before now end runs r

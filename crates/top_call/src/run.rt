@@ -20,6 +20,19 @@ use std::thread::Threads;
 use task_read::{TaskEnd, read_task};
 use value_core::Bytes;
 
+// The end of a run whose task wasn't read.
+fn end_of(unread: TaskEnd) -> End
+    ensures read { (file : List ℕ) → unread ≡ TaskEnd.ReadFault file → result ≡ End.ReadFault file }
+    ensures form { unread ≡ TaskEnd.WrongForm → result ≡ End.NotYet }
+    ensures memory { (result ≡ End.OutOfMemory) ↔ (unread ≡ TaskEnd.OutOfMemory) }
+{
+    match unread {
+        TaskEnd::ReadFault { file } => End::ReadFault { file },
+        TaskEnd::WrongForm => End::NotYet,
+        TaskEnd::OutOfMemory => End::OutOfMemory,
+    }
+}
+
 // Reads the task of a file, lists its answers and writes its text.
 fn run_file<F: Folder, K: Sink>(alloc: Global, file: &Bytes, folder: &mut F, out: &mut K) -> End
     ensures runs { Runs (F.told folder.old) (F.faults folder.old) (F.faults folder.new) file.now (K.written out.old) (K.written out.new) (K.faults out.old) (K.faults out.new) result }
@@ -27,9 +40,7 @@ fn run_file<F: Folder, K: Sink>(alloc: Global, file: &Bytes, folder: &mut F, out
 {
     match read_task(alloc, folder, file) {
         Ok(task) => answer(alloc, &task, out),
-        Err(TaskEnd::ReadFault { file }) => End::ReadFault { file },
-        Err(TaskEnd::WrongForm) => End::NotYet,
-        Err(TaskEnd::OutOfMemory) => End::OutOfMemory,
+        Err(unread) => end_of(unread),
     }
 }
 
@@ -76,6 +87,7 @@ pub fn scythe<R: Threads + Sync, F: Folder, K: Sink, E: Sink, G: Gate + Sync>(
 
     // What was written.
     ensures out_front { IfReady (asked (F.told folder.old) words.now) (λ task. GainedFront (K.written out.old) (K.written out.new) (text task)) }
+    ensures out_refused { IsRefused (asked (F.told folder.old) words.now) → K.written out.new ≡ K.written out.old }
     ensures out_kept { IsUnwritten result → K.written out.new ≡ K.written out.old }
     ensures err_front { GainedFront (E.written err.old) (E.written err.new) (line result) }
     ensures err_whole { Gained (E.written err.old) (E.written err.new) (line result) ⊎ Rose (E.faults err.old) (E.faults err.new) }
