@@ -1,5 +1,5 @@
-ghost use Rattle.std.specs.Prelude.{◌≡◌, ◌≢◌, ◌≤◌, ℕ, List, Err, None, IfOk, IfSome, length};
-ghost use Rattle.io_edge.specs.declared.fault.FolderFault.TheVariants.{Failed};
+ghost use Rattle.std.specs.Prelude.{◌≡◌, ◌≢◌, ◌≤◌, ◌<◌, Err, None, IfOk, IfSome, length};
+ghost use Rattle.io_edge.specs.declared.fault.FolderFault.TheVariants.{Failed, TooLong};
 ghost use Rattle.io_edge.specs.Rose.{Rose};
 
 use crate::fault::FolderFault;
@@ -38,8 +38,9 @@ impl<R: Files + Drop> Folder for DiskFolder<R> {
         ensures failed { result ≡ Err Failed → Rose self.old.faults self.new.faults }
         ensures still { result ≢ Err Failed → self.new.faults ≡ self.old.faults }
 
-        // What is answered is the whole of a file that was opened.
+        // What is answered is the whole of a file that was opened, and too long only where that file is.
         ensures whole { IfOk result (λ v. (file : R.File) × IfSome (R.File.remaining file) (λ bytes. v.items ≡ bytes)) }
+        ensures long { result ≡ Err TooLong → (file : R.File) × IfSome (R.File.remaining file) (λ bytes. limit < length bytes) }
     {
         let answer = match open(&self.files, name) {
             Ok(file) => read_within(alloc, file, limit),
