@@ -7,6 +7,7 @@ ghost use Rattle.skeleton_list.specs.declared.fault.ListFault.TheVariants.{TooMa
 
 use crate::fault::ListFault;
 use crate::list::{bases, next_level};
+use crate::room::room_after;
 use crate::skeleton::Skeleton;
 use query_core::Node;
 use sqlite_items::Items;
@@ -28,9 +29,7 @@ impl Levels {
         ensures many { result ≡ Err TooMany → self.room < length next }
     {
         let Levels { mut levels, room } = self;
-        let Some(room) = room.checked_sub(next.len()) else {
-            return Err(ListFault::TooMany);
-        };
+        let room = room_after(room, next.len())?;
         levels.push(next)?;
         Ok(Levels { levels, room })
     }

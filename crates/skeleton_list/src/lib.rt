@@ -6,6 +6,7 @@ mod keys;
 mod levels;
 mod list;
 mod meeting;
+mod room;
 mod skeleton;
 
 pub use fault::ListFault;

@@ -8,6 +8,7 @@ ghost use Rattle.skeleton_list.specs.declared.fault.ListFault.TheVariants.{TooMa
 use crate::fault::ListFault;
 use crate::keys::{agg_list, key_lists};
 use crate::meeting::Meeting;
+use crate::room::room_for_more;
 use crate::skeleton::Skeleton;
 use query_core::{Agg, Pairing, Uniting};
 use sqlite_items::Items;
@@ -19,9 +20,7 @@ use value_core::OutOfMemory;
 fn push(room: usize, out: &mut Vec<Skeleton>, skeleton: Skeleton) -> Result<(), ListFault>
     ensures { Lists room (plains out.old.items) (plains out.new.items) (plain skeleton ∷ []) result }
 {
-    if out.len() >= room {
-        return Err(ListFault::TooMany);
-    }
+    room_for_more(room, out.len())?;
     Ok(out.push(skeleton)?)
 }
 
