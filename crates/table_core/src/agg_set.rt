@@ -30,6 +30,5 @@ impl AggSet {
         ensures sums { AggSet.NONE.sum ≡ false }
         ensures least { AggSet.NONE.min ≡ false }
         ensures greatest { AggSet.NONE.max ≡ false }
-    {
-    }
+    {}
 }

@@ -114,7 +114,9 @@ fn is_table_within(widest: usize, longest: usize, table: &Table) -> bool
 fn is_each_input_within(inputs: &[Table]) -> bool
     ensures { result ≡ list_all (is_table_within MOST_COLUMNS MOST_ROWS) inputs.now }
 {
-    inputs.iter().all(|table| is_table_within(MOST_COLUMNS, MOST_ROWS, table))
+    inputs
+        .iter()
+        .all(|table| is_table_within(MOST_COLUMNS, MOST_ROWS, table))
 }
 
 // Whether there are inputs, and not too many, of distinct names, each within its limits.
