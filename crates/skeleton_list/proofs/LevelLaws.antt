@@ -1,5 +1,5 @@
 -- The levels of skeletons with their leaves and types are the levels of the grammar.
-use Rattle.std.proofs.Common.{◌≡◌, ℕ, zero, suc, ◌+◌, ◌-◌, ◌<◌, ◌≤◌, Bool, List, [], ◌∷◌, ◌++◌, map, length, Option, Some, None, option_map, Result, Ok, Err, refl, sym, ap, ap₂, ◌∙◌, arith, append_assoc, length-append}
+use Rattle.std.proofs.Common.{◌≡◌, ℕ, suc, ◌+◌, ◌-◌, ◌<◌, ◌≤◌, Bool, List, [], ◌∷◌, ◌++◌, map, length, Option, Some, None, option_map, Result, Ok, Err, refl, sym, ap, ap₂, ◌∙◌, arith, append_assoc, length-append}
 use Rattle.std.specs.Prelude.{filter as list_filter, slice_get, unwrap_or}
 use Rattle.std.specs.List.{flat_map, range_with_len}
 use Rattle.std.proofs.lemmas.Bool.{false≢true}
@@ -13,7 +13,7 @@ use Rattle.query_core.specs.Tree.{Tree}
 use Rattle.query_core.specs.Tree as t
 use Rattle.query_core.specs.Meaning.{columns}
 use Rattle.query_core.specs.Grammar.{takes_filter, may_pair, may_unite, level_at, products, level_pairs, last_level, filters_over, pairs_of, unions_of, key_lists, agg_list, groups_of, next_level, levels, skeletons}
-use Rattle.query_core.proofs.MapLaws.{single, flat_map_twice, flat_map_same, flat_map_of_map, flat_map_singles, map_twice, kept_joined}
+use Rattle.query_core.proofs.MapLaws.{single, flat_map_same, flat_map_of_map, flat_map_singles, map_twice, kept_joined}
 use Rattle.query_core.specs.declared.kinds.Pairing.{Pairing}
 use Rattle.query_core.specs.declared.kinds.Pairing.TheVariants.{Join, Left}
 use Rattle.query_core.specs.declared.kinds.Uniting.{Uniting}
@@ -22,7 +22,7 @@ use Rattle.skeleton_list.specs.declared.fault.ListFault.{ListFault}
 use Rattle.skeleton_list.specs.declared.fault.ListFault.TheVariants.{TooMany, OutOfMemory}
 use Rattle.skeleton_list.specs.declared.meeting.Meeting.{Meeting}
 use Rattle.skeleton_list.specs.declared.meeting.Meeting.TheVariants.{Pair, Union}
-use Rattle.skeleton_list.specs.Listed.{Listed, UnlessTooMany, listed, listed_levels, all_of, filter_on, met_tree, pair_on, pairs_between, listed_at, pairs_at, pairs_on, group_on, keyed_on, groups_on, last_listed, first_kinds, last_kinds, next_listed}
+use Rattle.skeleton_list.specs.Listed.{Listed, UnlessTooMany, listed, listed_levels, all_of, filter_on, met_tree, pair_on, pairs_between, listed_at, pairs_at, pairs_on, keyed_on, groups_on, last_listed, next_listed}
 
 level_of : (task : TaskParts) (o : Option (List Tree)) → unwrap_or (option_map (map (listed task)) o) [] ≡ map (listed task) (unwrap_or o [])
 level_of task None = refl

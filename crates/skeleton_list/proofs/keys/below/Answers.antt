@@ -1,5 +1,4 @@
 use Rattle.std.proofs.Common.{◌≡◌, ◌∷◌, ◌++◌, [], ◌<◌, arith}
-use Rattle.std.proofs.lemmas.Grind.{common_steps}
 use Rattle.skeleton_list.proofs.RangeLaws.{range_more}
 use Rattle.skeleton_list.proofs.keys.below.Goals as goal
 

@@ -1,7 +1,7 @@
 use Rattle.std.proofs.Common.{◌≡◌, ◌++◌, map, drop}
 use Rattle.query_core.specs.View.{tree}
 use Rattle.skeleton_list.specs.Listed.{all_of}
-use Rattle.skeleton_list.specs.View.{plains, plain_levels}
+use Rattle.skeleton_list.specs.View.{plain_levels}
 use Rattle.skeleton_list.proofs.levels.nodes.Given as goal
 
 abbrev pub invariant-loop-level : goal.invariant-loop-level

@@ -1,9 +1,9 @@
-use Rattle.std.proofs.Common.{◌+◌, ◌∷◌, [], map, drop, arith, ◌∙◌}
+use Rattle.std.proofs.Common.{◌+◌, drop, arith}
 use Rattle.std.specs.List.{flat_map}
 use Rattle.std.proofs.lemmas.Result.{err_from_is_err_and}
-use Rattle.skeleton_list.specs.Listed.{filter_on, pair_on, pairs_between, group_on, keyed_on, groups_on}
+use Rattle.skeleton_list.specs.Listed.{groups_on}
 use Rattle.skeleton_list.specs.View.{plain, plains}
-use Rattle.skeleton_list.proofs.ListLaws.{stops, loop_part, plain_loop_part, map_loop_part}
+use Rattle.skeleton_list.proofs.ListLaws.{stops, loop_part}
 use Rattle.skeleton_list.proofs.list.push_all_groups.Goals as goal
 
 pub returns-in_err-push_groups : goal.returns-in_err-push_groups
