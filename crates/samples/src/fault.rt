@@ -38,20 +38,29 @@ impl From<io::Error> for Failed {
 }
 
 impl From<WordFault> for Failed {
-    fn from(_fault: WordFault) -> Failed {
-        Failed::BadSample
+    fn from(fault: WordFault) -> Failed {
+        match fault {
+            WordFault::BadLength { .. } => Failed::BadSample,
+            WordFault::OutOfMemory => Failed::NoMemory,
+        }
     }
 }
 
 impl From<QueryFault> for Failed {
-    fn from(_fault: QueryFault) -> Failed {
-        Failed::BadSample
+    fn from(fault: QueryFault) -> Failed {
+        match fault {
+            QueryFault::OutOfMemory => Failed::NoMemory,
+            _ => Failed::BadSample,
+        }
     }
 }
 
 impl From<PushFault> for Failed {
-    fn from(_fault: PushFault) -> Failed {
-        Failed::BadSample
+    fn from(fault: PushFault) -> Failed {
+        match fault {
+            PushFault::Width { .. } | PushFault::WrongType { .. } => Failed::BadSample,
+            PushFault::OutOfMemory => Failed::NoMemory,
+        }
     }
 }
 
