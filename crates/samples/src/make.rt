@@ -5,7 +5,7 @@ use predicate_core::Pred;
 use query_core::{Agg, Node, Pairing, Query, Uniting};
 use sqlite_items::{Boxed, Items};
 use std::alloc::Global;
-use table_core::{AggSet, Column, Table, TaskParts, Tuple};
+use table_core::{AggSet, Column, Table, Task, TaskParts, Tuple};
 use value_core::{Bytes, ColType, Value, Word, read_int};
 
 /// The value of a word: NULL where it is a dash, a number where it spells one, else the text.
@@ -107,6 +107,11 @@ pub fn parts(alloc: Global, shape: &Shape) -> Result<TaskParts, Failed> {
         show,
         budget: u64::from(budget),
     })
+}
+
+/// A task within its limits.
+pub fn task(alloc: Global, shape: &Shape) -> Result<Task, Failed> {
+    Ok(Task::new(parts(alloc, shape)?)?)
 }
 
 /// A tree that a constant can hold.

@@ -99,29 +99,47 @@ fn judged(rt: &impl Print, pred: &Pred, row: &[Value], constants: &[Value]) -> R
 fn counted(rt: &impl Print, pred: &Pred) -> Result<(), Failed> {
     let count = atom_count(pred);
     let has = [has_constant(pred, 0), has_constant(pred, 1)];
-    println!(rt; "  atoms: {count}, with constants 0 and 1: {has:?}")?;
+    println!(rt; "{pred:?}: {count} atoms, with constants 0 and 1: {has:?}")?;
     Ok(())
+}
+
+// The predicates of up to some bounds of some atoms.
+fn bounded(rt: &impl Print, alloc: Global, cases: &[(u32, &[u64])]) -> Result<(), Failed> {
+    let atoms = number_atoms(alloc)?;
+    for (bound, numbers) in cases {
+        numbered_of(rt, alloc, atoms.as_slice(), *bound, numbers)?;
+    }
+    Ok(())
+}
+
+// What predicates say of the row of NULL and 7, where the only constant is 7.
+fn all_judged(rt: &impl Print, alloc: Global, preds: &[Pred]) -> Result<(), Failed> {
+    let row = values(alloc, "- 7")?;
+    let constants = values(alloc, "7")?;
+    for pred in preds {
+        judged(rt, pred, row.as_slice(), constants.as_slice())?;
+    }
+    Ok(())
+}
+
+fn all_counted(rt: &impl Print, preds: &[Pred]) -> Result<(), Failed> {
+    for pred in preds {
+        counted(rt, pred)?;
+    }
+    Ok(())
+}
+
+// The predicates of up to three tests for NULL of 3,000 columns, at numbers past 32 bits.
+fn many(rt: &impl Print, alloc: Global) -> Result<(), Failed> {
+    let atoms = null_atoms(alloc)?;
+    let numbers = &[9_000_002_000, 9_000_002_001];
+    numbered_of(rt, alloc, atoms.as_slice(), 3, numbers)
 }
 
 pub fn samples(rt: &impl Print, alloc: Global) -> Result<(), Failed> {
     listed(rt, alloc)?;
-    let atoms = number_atoms(alloc)?;
-    for (bound, numbers) in NUMBERS {
-        numbered_of(rt, alloc, atoms.as_slice(), *bound, numbers)?;
-    }
-    let atoms = null_atoms(alloc)?;
-    numbered_of(
-        rt,
-        alloc,
-        atoms.as_slice(),
-        3,
-        &[9_000_002_000, 9_000_002_001],
-    )?;
-    let row = values(alloc, "- 7")?;
-    let constants = values(alloc, "7")?;
-    for pred in PREDS {
-        judged(rt, pred, row.as_slice(), constants.as_slice())?;
-        counted(rt, pred)?;
-    }
-    Ok(())
+    bounded(rt, alloc, NUMBERS)?;
+    many(rt, alloc)?;
+    all_judged(rt, alloc, PREDS)?;
+    all_counted(rt, PREDS)
 }

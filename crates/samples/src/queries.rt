@@ -1,10 +1,10 @@
 //! Queries in SQL.
 
 use crate::fault::Failed;
-use crate::make::{Shape, Tree, parts, query};
+use crate::make::{Shape, Tree, query, task};
 use crate::show::text;
 use predicate_core::{Atom, Pred};
-use query_core::{Agg, Pairing, Uniting};
+use query_core::{Agg, Pairing, Query, Uniting};
 use sql_print::sql;
 use std::alloc::Global;
 use table_core::Task;
@@ -35,7 +35,9 @@ const IN_ORDER: Atom = Atom::Cols(0, CmpOp::Le, 1);
 const SAME: Pred = Pred::One(Atom::Cols(0, CmpOp::Eq, 2));
 
 // A tree, a map and whether the query is distinct.
-const CASES: &[(Tree, [usize; 2], bool)] = &[
+type Case = (Tree, [usize; 2], bool);
+
+const CASES: &[Case] = &[
     (Tree::Filter(PLAIN, Pred::One(NOT_TEXT)), [0, 1], false),
     (
         Tree::Filter(PLAIN, Pred::And2(IS_TWO, IN_ORDER)),
@@ -78,25 +80,25 @@ const CASES: &[(Tree, [usize; 2], bool)] = &[
     (Tree::Unite(Uniting::All, QUOTED, PLAIN), [1, 1], true),
 ];
 
-// The SQL of a query's copy.
-fn printed(
-    rt: &impl Print,
-    alloc: Global,
-    task: &Task,
-    tree: &Tree,
-    map: &[usize],
-    distinct: bool,
-) -> Result<(), Failed> {
-    let query = query(alloc, tree, map, distinct)?.copy(alloc)?;
-    let bytes = sql(alloc, task, &query)?;
+fn copied(alloc: Global, (tree, map, distinct): &Case) -> Result<Query, Failed> {
+    let query = query(alloc, tree, map, *distinct)?;
+    Ok(query.copy(alloc)?)
+}
+
+// The SQL of a query.
+fn printed(rt: &impl Print, alloc: Global, task: &Task, query: &Query) -> Result<(), Failed> {
+    let bytes = sql(alloc, task, query)?;
     println!(rt; "{}", text(bytes.as_slice()))?;
     Ok(())
 }
 
-pub fn samples(rt: &impl Print, alloc: Global) -> Result<(), Failed> {
-    let task = Task::new(parts(alloc, &SHAPE)?)?;
-    for (tree, map, distinct) in CASES {
-        printed(rt, alloc, &task, tree, map, *distinct)?;
+fn all(rt: &impl Print, alloc: Global, task: &Task, cases: &[Case]) -> Result<(), Failed> {
+    for case in cases {
+        printed(rt, alloc, task, &copied(alloc, case)?)?;
     }
     Ok(())
+}
+
+pub fn samples(rt: &impl Print, alloc: Global) -> Result<(), Failed> {
+    all(rt, alloc, &task(alloc, &SHAPE)?, CASES)
 }

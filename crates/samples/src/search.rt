@@ -1,7 +1,7 @@
 //! The answers of tasks, and the text that lists them.
 
 use crate::fault::Failed;
-use crate::make::{Shape, parts};
+use crate::make::{Shape, task};
 use crate::show::text;
 use plain_search::{few, plain};
 use std::alloc::Global;
@@ -92,9 +92,13 @@ fn answered(rt: &impl Print, alloc: Global, task: &Task) -> Result<(), Failed> {
     Ok(())
 }
 
-pub fn samples(rt: &impl Print, alloc: Global) -> Result<(), Failed> {
-    for shape in SHAPES {
-        answered(rt, alloc, &Task::new(parts(alloc, shape)?)?)?;
+fn all(rt: &impl Print, alloc: Global, shapes: &[Shape]) -> Result<(), Failed> {
+    for shape in shapes {
+        answered(rt, alloc, &task(alloc, shape)?)?;
     }
     Ok(())
+}
+
+pub fn samples(rt: &impl Print, alloc: Global) -> Result<(), Failed> {
+    all(rt, alloc, SHAPES)
 }

@@ -1,7 +1,7 @@
 //! Skeletons.
 
 use crate::fault::Failed;
-use crate::make::{Shape, parts};
+use crate::make::{Shape, task};
 use query_core::{Agg, Node};
 use skeleton_list::skeletons;
 use std::alloc::Global;
@@ -96,9 +96,13 @@ fn listed(rt: &impl Print, alloc: Global, task: &Task, most: usize) -> Result<()
     Ok(())
 }
 
-pub fn samples(rt: &impl Print, alloc: Global) -> Result<(), Failed> {
-    for (shape, most) in CASES {
-        listed(rt, alloc, &Task::new(parts(alloc, shape)?)?, *most)?;
+fn all(rt: &impl Print, alloc: Global, cases: &[(Shape, usize)]) -> Result<(), Failed> {
+    for (shape, most) in cases {
+        listed(rt, alloc, &task(alloc, shape)?, *most)?;
     }
     Ok(())
+}
+
+pub fn samples(rt: &impl Print, alloc: Global) -> Result<(), Failed> {
+    all(rt, alloc, CASES)
 }

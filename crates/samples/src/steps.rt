@@ -1,17 +1,17 @@
 //! Steps over tables, and what trees and queries give.
 
 use crate::fault::Failed;
-use crate::make::{Shape, Tree, node, parts, query, table};
+use crate::make::{Shape, Tree, query, table, task};
 use crate::show::{Grid, Rows};
 use bag_eval::{
     Eval, answer, filter_rows, group_rows, join_rows, left_rows, node_rows, project, query_rows,
     rows, union_rows,
 };
 use predicate_core::{Atom, Pred};
-use query_core::{Agg, Pairing, Uniting, columns, same_types, table_types};
+use query_core::{Agg, Node, Pairing, Query, Uniting, columns, same_types, table_types};
 use sqlite_items::Items;
 use std::alloc::Global;
-use table_core::{Table, Task, Tuple};
+use table_core::{Table, Task, TaskParts, Tuple};
 use value_core::CmpOp;
 
 // What is done to one or two tables.
@@ -117,49 +117,71 @@ fn listed(rt: &impl Print, rows: Option<Items<Tuple>>) -> Result<(), Failed> {
     Ok(())
 }
 
-// What a tree gives, as a table and as rows.
-fn evaluated(rt: &impl Print, alloc: Global, task: &Task, tree: &Tree) -> Result<(), Failed> {
-    let node = node(alloc, tree)?;
-    columns(alloc, task.parts(), &node)?;
+// What a tree gives as a table.
+fn evaluated(rt: &impl Print, alloc: Global, task: &Task, node: &Node) -> Result<(), Failed> {
     println!(rt; "{node:?}:")?;
-    given(rt, &rows(alloc, task, &node)?)?;
-    let task = task.parts();
+    columns(alloc, task.parts(), node)?;
+    given(rt, &rows(alloc, task, node)?)
+}
+
+// The same as rows.
+fn evaluated_rows(
+    rt: &impl Print,
+    alloc: Global,
+    task: &TaskParts,
+    node: &Node,
+) -> Result<(), Failed> {
+    let constants = task.constants.as_slice();
     listed(
         rt,
-        node_rows(
-            alloc,
-            task.inputs.as_slice(),
-            task.constants.as_slice(),
-            &node,
-        )?,
+        node_rows(alloc, task.inputs.as_slice(), constants, node)?,
     )
 }
 
-// What a tree's query gives that has its first column twice, as a table and as rows.
-fn answered(rt: &impl Print, alloc: Global, task: &Task, tree: &Tree) -> Result<(), Failed> {
-    let query = query(alloc, tree, &[0, 0], true)?;
+// What a query gives as a table.
+fn answered(rt: &impl Print, alloc: Global, task: &Task, query: &Query) -> Result<(), Failed> {
     columns(alloc, task.parts(), &query.body)?;
-    given(rt, &answer(alloc, task, &query)?)?;
-    let task = task.parts();
+    given(rt, &answer(alloc, task, query)?)
+}
+
+// The same as rows.
+fn answered_rows(
+    rt: &impl Print,
+    alloc: Global,
+    task: &TaskParts,
+    query: &Query,
+) -> Result<(), Failed> {
+    let constants = task.constants.as_slice();
     listed(
         rt,
-        query_rows(
-            alloc,
-            task.inputs.as_slice(),
-            task.constants.as_slice(),
-            &query,
-        )?,
+        query_rows(alloc, task.inputs.as_slice(), constants, query)?,
     )
+}
+
+// What a tree gives, and what its query gives that has its first column twice.
+fn tree(rt: &impl Print, alloc: Global, task: &Task, tree: &Tree) -> Result<(), Failed> {
+    let query = query(alloc, tree, &[0, 0], true)?;
+    evaluated(rt, alloc, task, &query.body)?;
+    evaluated_rows(rt, alloc, task.parts(), &query.body)?;
+    answered(rt, alloc, task, &query)?;
+    answered_rows(rt, alloc, task.parts(), &query)
+}
+
+fn trees(rt: &impl Print, alloc: Global, task: &Task, trees: &[Tree]) -> Result<(), Failed> {
+    for it in trees {
+        tree(rt, alloc, task, it)?;
+    }
+    Ok(())
+}
+
+fn cases(rt: &impl Print, alloc: Global, cases: &[Case]) -> Result<(), Failed> {
+    for case in cases {
+        shown(rt, alloc, case)?;
+    }
+    Ok(())
 }
 
 pub fn samples(rt: &impl Print, alloc: Global) -> Result<(), Failed> {
-    for case in CASES {
-        shown(rt, alloc, case)?;
-    }
-    let task = Task::new(parts(alloc, &SHAPE)?)?;
-    for tree in TREES {
-        evaluated(rt, alloc, &task, tree)?;
-        answered(rt, alloc, &task, tree)?;
-    }
-    Ok(())
+    cases(rt, alloc, CASES)?;
+    trees(rt, alloc, &task(alloc, &SHAPE)?, TREES)
 }

@@ -4,11 +4,12 @@ use crate::fault::Failed;
 use crate::make::{Shape, Tree, node, parts, table};
 use predicate_core::{Atom, Pred};
 use query_core::{
-    Agg, Pairing, Uniting, columns, group_types, input_types, names_columns, names_inputs,
+    Agg, Node, Pairing, Uniting, columns, group_types, input_types, names_columns, names_inputs,
     node_types, picked_types, table_types, types_agree,
 };
+use sqlite_items::Boxed;
 use std::alloc::Global;
-use table_core::TaskParts;
+use table_core::{Table, TaskParts};
 use value_core::{CmpOp, ColType};
 
 const SHAPE: Shape = Shape {
@@ -56,9 +57,8 @@ const TREES: &[Tree] = &[
 ];
 
 // The types of a tree's columns, or the first thing that is wrong with it.
-fn typed(rt: &impl Print, alloc: Global, task: &TaskParts, tree: &Tree) -> Result<(), Failed> {
-    let node = node(alloc, tree)?.copy(alloc)?;
-    match columns(alloc, task, &node) {
+fn typed(rt: &impl Print, alloc: Global, task: &TaskParts, node: &Node) -> Result<(), Failed> {
+    match columns(alloc, task, node) {
         Ok(types) => println!(rt; "{node:?}: {:?}", types.as_slice())?,
         Err(fault) => println!(rt; "{node:?}: {fault:?}")?,
     }
@@ -66,17 +66,28 @@ fn typed(rt: &impl Print, alloc: Global, task: &TaskParts, tree: &Tree) -> Resul
 }
 
 // Which of the three things are right with a tree.
-fn checked(rt: &impl Print, alloc: Global, task: &TaskParts, tree: &Tree) -> Result<(), Failed> {
-    let node = node(alloc, tree)?.boxed(alloc)?;
-    let inputs = names_inputs(task, node.get());
-    let columns = names_columns(alloc, task, node.get())?;
-    let types = types_agree(alloc, task, node.get())?;
+fn checked(rt: &impl Print, alloc: Global, task: &TaskParts, node: &Node) -> Result<(), Failed> {
+    let inputs = names_inputs(task, node);
+    let columns = names_columns(alloc, task, node)?;
+    let types = types_agree(alloc, task, node)?;
     println!(rt; "  inputs: {inputs}, columns: {columns}, types: {types}")?;
     Ok(())
 }
 
+// A copy of a tree, in a box.
+fn boxed(alloc: Global, tree: &Tree) -> Result<Boxed<Node>, Failed> {
+    let node = node(alloc, tree)?;
+    Ok(node.boxed(alloc)?)
+}
+
+fn shown(rt: &impl Print, alloc: Global, task: &TaskParts, tree: &Tree) -> Result<(), Failed> {
+    let node = boxed(alloc, tree)?;
+    typed(rt, alloc, task, node.get())?;
+    checked(rt, alloc, task, node.get())
+}
+
 // Types, and what they are of.
-fn shown(rt: &impl Print, name: &str, types: &[ColType]) -> Result<(), Failed> {
+fn named(rt: &impl Print, name: &str, types: &[ColType]) -> Result<(), Failed> {
     println!(rt; "{name}: {types:?}")?;
     Ok(())
 }
@@ -85,33 +96,47 @@ fn shown(rt: &impl Print, name: &str, types: &[ColType]) -> Result<(), Failed> {
 fn types(rt: &impl Print, alloc: Global) -> Result<(), Failed> {
     let types = table_types(alloc, &table(alloc, "t", "k n#")?)?;
     let types = types.as_slice();
-    shown(rt, "table", types)?;
-    shown(
+    named(rt, "table", types)?;
+    named(
         rt,
         "picked",
         picked_types(alloc, types, &[1, 0, 1])?.as_slice(),
     )?;
-    shown(
+    named(
         rt,
         "grouped",
         group_types(alloc, types, &[0], &Agg::Min(1))?.as_slice(),
     )
 }
 
-// The types of an input's columns, and of a tree's.
-fn types_in(rt: &impl Print, alloc: Global, task: &TaskParts) -> Result<(), Failed> {
-    let inputs = task.inputs.as_slice();
-    shown(rt, "input", input_types(alloc, inputs, 1)?.as_slice())?;
-    let tree = node(alloc, &TREES[10])?;
-    shown(rt, "tree", node_types(alloc, inputs, &tree)?.as_slice())
+// The types of an input's columns.
+fn input(rt: &impl Print, alloc: Global, inputs: &[Table]) -> Result<(), Failed> {
+    named(rt, "input", input_types(alloc, inputs, 1)?.as_slice())
+}
+
+// The types of the columns of a tree's copy.
+fn tree(rt: &impl Print, alloc: Global, inputs: &[Table], tree: &Tree) -> Result<(), Failed> {
+    let node = node(alloc, tree)?;
+    let copy = node.copy(alloc)?;
+    named(rt, "tree", node_types(alloc, inputs, &copy)?.as_slice())
+}
+
+fn all(rt: &impl Print, alloc: Global, task: &TaskParts, trees: &[Tree]) -> Result<(), Failed> {
+    for tree in trees {
+        shown(rt, alloc, task, tree)?;
+    }
+    Ok(())
 }
 
 pub fn samples(rt: &impl Print, alloc: Global) -> Result<(), Failed> {
-    let task = parts(alloc, &SHAPE)?;
-    for tree in TREES {
-        typed(rt, alloc, &task, tree)?;
-        checked(rt, alloc, &task, tree)?;
-    }
     types(rt, alloc)?;
-    types_in(rt, alloc, &task)
+    let task = parts(alloc, &SHAPE)?;
+    input(rt, alloc, task.inputs.as_slice())?;
+    tree(
+        rt,
+        alloc,
+        task.inputs.as_slice(),
+        &Tree::Pair(Pairing::Join, LEFT, RIGHT, SAME),
+    )?;
+    all(rt, alloc, &task, TREES)
 }
