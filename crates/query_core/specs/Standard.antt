@@ -1,5 +1,5 @@
 -- The standard form: the first predicate of those that keep the same rows, and nothing that changes nothing.
-use Rattle.std.specs.Prelude.{Bool, true, false, not, ◌&&◌, ◌||◌, List, [], unwrap_or, find}
+use Rattle.std.specs.Prelude.{Bool, true, false, not, ◌&&◌, ◌||◌, List, [], unwrap_or, find, if◌then◌else◌}
 use Rattle.std.specs.List.{list_all}
 use Rattle.value_core.specs.declared.value.Value.{Value}
 use Rattle.value_core.specs.declared.value.ColType.{ColType}
@@ -14,6 +14,7 @@ use Rattle.query_core.specs.Tree as t
 use Rattle.query_core.specs.Joins.{crossed}
 use Rattle.query_core.specs.Meaning.{columns, hole_types, rows, selected}
 use Rattle.query_core.specs.Grammar.{predicates}
+use Rattle.query_core.specs.declared.kinds.Pairing.{Pairing}
 
 -- whether two truth values are the same
 abbrev pub same_bool : Bool → Bool → Bool
@@ -64,3 +65,33 @@ is_standard_tree task (t.unite kind a b) = is_standard_tree task a && is_standar
 -- whether a query is standard: its predicates are, and where it removes duplicates there are some
 abbrev pub is_standard : TaskParts → Select → Bool
 is_standard task q = is_standard_tree task q.body && (not q.distinct || has_double (selected q.picks (rows_or_none task q.body)))
+
+-- the first predicate over columns of these types that keeps the same of these rows as p
+abbrev pub first_of : TaskParts → List ColType → List Row → Pred → Pred
+first_of task types candidates p = first_alike task.constants candidates (predicates task types) p
+
+-- the standard form of a filter over a standard tree: the tree alone where p keeps all its rows, else the filter by the first predicate of those alike
+abbrev pub std_filter : TaskParts → Tree → Pred → Tree
+std_filter task child p =
+    if keeps_all task.constants (rows_or_none task child) p then child
+    else t.filter child (first_of task (columns task.inputs child) (rows_or_none task child) p)
+
+-- the standard form of a pair of standard trees: the pair by the first predicate of those alike on all pairs of rows
+abbrev pub std_pair : TaskParts → Pairing → Tree → Tree → Pred → Tree
+std_pair task kind a b p = t.pair kind a b (first_of task (hole_types task.inputs a b) (crossed (rows_or_none task a) (rows_or_none task b)) p)
+
+-- the standard form of a tree, from the leaves up
+abbrev pub std : TaskParts → Tree → Tree
+std task (t.base table) = t.base table
+std task (t.filter child p) = std_filter task (std task child) p
+std task (t.pair kind a b p) = std_pair task kind (std task a) (std task b) p
+std task (t.group child keys agg) = t.group (std task child) keys agg
+std task (t.unite kind a b) = t.unite kind (std task a) (std task b)
+
+-- whether a query over this body removes a duplicate
+abbrev pub removes_some : TaskParts → Select → Tree → Bool
+removes_some task q body = q.distinct && has_double (selected q.picks (rows_or_none task body))
+
+-- the standard form of a query: that of its body, and duplicates removed only where there are some
+abbrev pub std_query : TaskParts → Select → Select
+std_query task q = record { body = std task q.body; picks = q.picks; distinct = removes_some task q (std task q.body) }

@@ -7,13 +7,13 @@ use Rattle.std.specs.declared.cmp.Ordering.TheVariants.{Less, Equal, Greater}
 use Rattle.std.specs.Ordering.{is_lt, ordering_reverse}
 use Rattle.std.proofs.lemmas.Bool.{cases_Bool, false≢true}
 use Rattle.std.proofs.lemmas.Option.{same_Some, none-some}
-use Rattle.predicate_core.proofs.OnceLists.{In, in_map, in_at, at_in}
+use Rattle.predicate_core.proofs.OnceLists.{In, Once, in_same, in_map, in_at, at_in}
 use Rattle.table_core.specs.declared.task.TaskParts.{TaskParts}
 use Rattle.query_core.specs.Grammar.{Numbered, queries}
 use Rattle.query_core.specs.Rank.{Key, key_order, before}
 use Rattle.query_core.specs.Answers.{RankedQuery, ranked, comes_before, placed, ascending, is_answer, found, answers}
 use Rattle.query_laws.specs.Laws.{key_of, TiesAreEqual, Ascends}
-use Rattle.query_laws.proofs.MemberLaws.{in_filter}
+use Rattle.query_laws.proofs.MemberLaws.{in_filter, map_in}
 use Rattle.query_core.proofs.KeyLaws.{key_order_total}
 use Rattle.query_laws.proofs.KeyLaws.{keys_apart, ties_equal}
 
@@ -56,7 +56,7 @@ abbrev Comparable : {X : Type 0} → (X → X → Bool) → X → X → Type 0
 Comparable lt a b = (lt a b ≡ true) ⊎ (lt b a ≡ true)
 
 -- what is in a list into which x was put is x or was there
-in_placed : {X : Type 0} (lt : X → X → Bool) (x : X) (ys : List X) (y : X) → In y (placed lt x ys) → (y ≡ x) ⊎ In y ys
+pub in_placed : {X : Type 0} (lt : X → X → Bool) (x : X) (ys : List X) (y : X) → In y (placed lt x ys) → (y ≡ x) ⊎ In y ys
 in_placed lt x [] y i = i
 in_placed lt x (z ∷ zs) y i =
     elim (cases_Bool (lt z x)) [
@@ -68,9 +68,54 @@ in_placed lt x (z ∷ zs) y i =
     ]
 
 -- what is in a sorted list was in the list
-in_ascending : {X : Type 0} (lt : X → X → Bool) (xs : List X) (y : X) → In y (ascending lt xs) → In y xs
+pub in_ascending : {X : Type 0} (lt : X → X → Bool) (xs : List X) (y : X) → In y (ascending lt xs) → In y xs
 in_ascending lt [] y i = i
 in_ascending lt (x ∷ xs) y i = elim (in_placed lt x (ascending lt xs) y i) [ inl e ↦ inl e | inr rest ↦ inr (in_ascending lt xs y rest) ]
+
+-- and what was in the list is in the sorted one
+placed_in : {X : Type 0} (lt : X → X → Bool) (x : X) (ys : List X) (y : X) → (y ≡ x) ⊎ In y ys → In y (placed lt x ys)
+placed_in lt x [] y i = i
+placed_in lt x (z ∷ zs) y i =
+    elim (cases_Bool (lt z x)) [
+      | inl holds ↦
+          let j : (y ≡ z) ⊎ In y (placed lt x zs) = elim i [
+            | inl e ↦ inr (placed_in lt x zs y (inl e))
+            | inr rest ↦ elim rest [ inl e ↦ inl e | inr later ↦ inr (placed_in lt x zs y (inr later)) ]
+          ] in
+          rw holds j
+      | inr fails ↦ rw fails i
+    ]
+
+pub ascending_in : {X : Type 0} (lt : X → X → Bool) (xs : List X) (y : X) → In y xs → In y (ascending lt xs)
+ascending_in lt [] y i = i
+ascending_in lt (x ∷ xs) y (inl e) = placed_in lt x (ascending lt xs) y (inl e)
+ascending_in lt (x ∷ xs) y (inr i) = placed_in lt x (ascending lt xs) y (inr (ascending_in lt xs y i))
+
+-- what a function gives of each element stands once in the sorted list where it does in the list
+once_placed : {X Y : Type 0} (f : X → Y) (lt : X → X → Bool) (x : X) (ys : List X) → (In (f x) (map f ys) → ⊥) → Once (map f ys) → Once (map f (placed lt x ys))
+once_placed f lt x [] new once = (new, once)
+once_placed f lt x (y ∷ ys) new once =
+    elim (cases_Bool (lt y x)) [
+      | inl holds ↦ rw holds (
+        λ i.
+            let h = in_map f (f y) (placed lt x ys) i in
+            elim (in_placed lt x ys h.0 h.1) [
+              | inl e ↦ new (inl (sym (h.2 ∙ ap f e)))
+              | inr later ↦ once.0 (in_same (f y) (f h.0) (map f ys) h.2 (map_in f h.0 ys later))
+            ],
+        once_placed f lt x ys (λ i. new (inr i)) once.1,
+      )
+      | inr fails ↦ rw fails (new, once)
+    ]
+
+pub once_ascending : {X Y : Type 0} (f : X → Y) (lt : X → X → Bool) (xs : List X) → Once (map f xs) → Once (map f (ascending lt xs))
+once_ascending f lt [] once = once
+once_ascending f lt (x ∷ xs) once =
+    once_placed f lt x (ascending lt xs)
+    (λ i.
+    let h = in_map f (f x) (ascending lt xs) i in
+    once.0 (in_same (f x) (f h.0) (map f xs) h.2 (map_in f h.0 xs (in_ascending lt xs h.0 h.1))))
+    (once_ascending f lt xs once.1)
 
 -- an element that is comparable with each of a strictly ascending list keeps it so
 placed_ascends : {X : Type 0} (lt : X → X → Bool) → ((a b c : X) → lt a b ≡ true → lt b c ≡ true → lt a c ≡ true) → (x : X) (ys : List X)

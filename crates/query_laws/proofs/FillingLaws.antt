@@ -14,7 +14,7 @@ use Rattle.query_core.specs.declared.agg.Agg.{Agg}
 use Rattle.query_core.specs.declared.kinds.Pairing.{Pairing}
 use Rattle.query_core.specs.declared.kinds.Uniting.{Uniting}
 use Rattle.query_core.specs.Grammar.{predicates, filter_predicates, of_each, filters_filled, pairs_filled, fillings}
-use Rattle.query_laws.proofs.MemberLaws.{in_one, in_flat_map}
+use Rattle.query_laws.proofs.MemberLaws.{in_one, in_flat_map, flat_map_in}
 use Rattle.query_laws.proofs.JoinedLists.{once_one, once_flat_map}
 
 -- the predicates, each once
@@ -32,6 +32,9 @@ in_of_each f z xs ys i =
     let h = in_flat_map (λ x. flat_map (f x) ys) z xs i in
     let g = in_flat_map (f h.0) z ys h.2 in
     (h.0, g.0, h.1, g.1, g.2)
+
+pub of_each_in : {A : Type 0} (f : Tree → Tree → List A) (z : A) (x y : Tree) (xs ys : List Tree) → In x xs → In y ys → In z (f x y) → In z (of_each f xs ys)
+of_each_in f z x y xs ys i j k = flat_map_in (λ x. flat_map (f x) ys) z x xs i (flat_map_in (f x) z y ys j k)
 
 pub once_of_each : {A : Type 0} (f : Tree → Tree → List A) → ((x y : Tree) → Once (f x y)) → ((a b c d : Tree) (z : A) → In z (f a b) → In z (f c d) → (a ≡ c) × (b ≡ d))
     → (xs ys : List Tree) → Once xs → Once ys → Once (of_each f xs ys)

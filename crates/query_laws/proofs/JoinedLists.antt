@@ -2,9 +2,10 @@
 use Rattle.std.proofs.Common.{◌≡◌, refl, sym, ap, ◌∙◌, subst, ℕ, zero, suc, ◌+◌, ◌≤◌, Bool, true, false, inl, inr, List, [], ◌∷◌, ◌++◌, map, arith}
 use Rattle.std.specs.Prelude.{filter as list_filter, flat_map}
 use Rattle.std.specs.List.{range_with_len}
+use Rattle.std.proofs.lemmas.Bool.{cases_Bool}
 use Rattle.std.proofs.lemmas.List.{map-append}
 use Rattle.predicate_core.proofs.OnceLists.{In, Once, in_same, in_append, in_map, once_append, once_map}
-use Rattle.query_laws.proofs.MemberLaws.{in_filter, in_flat_map, in_range}
+use Rattle.query_laws.proofs.MemberLaws.{in_filter, map_in, in_kept, in_flat_map, in_range}
 
 -- the element of a list of one stands once
 pub once_one : {X : Type 0} (x : X) → Once (x ∷ [])
@@ -18,6 +19,18 @@ once_filter_next test x xs false is new once = rw is once
 pub once_filter : {X : Type 0} (test : X → Bool) (xs : List X) → Once xs → Once (list_filter test xs)
 once_filter test [] once = tt
 once_filter test (x ∷ xs) once = once_filter_next test x xs (test x) refl once.0 (once_filter test xs once.1)
+
+-- the same of what a function gives
+pub once_map_filter : {X Y : Type 0} (f : X → Y) (test : X → Bool) (xs : List X) → Once (map f xs) → Once (map f (list_filter test xs))
+once_map_filter f test [] once = tt
+once_map_filter f test (x ∷ xs) once =
+    elim (cases_Bool (test x)) [
+      | inl is ↦ rw is (
+        λ i. let h = in_kept f test (f x) xs i in once.0 (in_same (f x) (f h.0) (map f xs) h.3 (map_in f h.0 xs h.1)),
+        once_map_filter f test xs once.1,
+      )
+      | inr is ↦ rw is (once_map_filter f test xs once.1)
+    ]
 
 -- where the elements' lists are apart, and in each of them each stands once, each stands once in what is joined
 pub once_flat_map_in : {X Y : Type 0} (f : X → List Y) (xs : List X) → ((x : X) → In x xs → Once (f x)) → ((x z : X) (y : Y) → In x xs → In z xs → In y (f x) → In y (f z) → x ≡ z)

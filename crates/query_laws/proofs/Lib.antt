@@ -1,3 +1,4 @@
+pub mod AlikeLaws
 pub mod AnswerLaws
 pub mod FillingLaws
 pub mod FirstCopyLaws
@@ -13,3 +14,7 @@ pub mod QueryLaws
 pub mod RowLaws
 pub mod SkeletonLaws
 pub mod SkeletonOnceLaws
+pub mod StandardAnswerLaws
+pub mod StandardFillingLaws
+pub mod StandardQueryLaws
+pub mod StandardTreeLaws

@@ -194,7 +194,7 @@ last_in task child i = in_equal child _ _ (sym (level_before task (operators chi
 pair_in : (task : TaskParts) (a b : Tree) → In a (level task (operators a)) → In b (level task (operators b)) → In (a, b) (level_pairs (levels task (operators a + operators b)))
 pair_in task a b left right = level_pairs_in task (operators a + operators b) (operators a) (operators b) a b refl left right
 
-three_parts : (x y z : Bool) → ((x && y) && z) ≡ true → (x ≡ true) × (y ≡ true) × (z ≡ true)
+pub three_parts : (x y z : Bool) → ((x && y) && z) ≡ true → (x ≡ true) × (y ≡ true) × (z ≡ true)
 three_parts x y z is = let h = and_parts (x && y) z is in let k = and_parts x y h.0 in (k.0, k.1, h.1)
 
 -- a formed tree stands in the level of its operators

@@ -1,9 +1,10 @@
-//! Laws of the definitions of queries: of skeletons, of keys, and of the rows of groups.
+//! Laws of the definitions of queries: of skeletons, of keys, of the rows of groups, and of the standard form.
 #![tactic(auto)]
 
 mod key_laws;
 mod row_laws;
 mod skeleton_laws;
+mod standard_laws;
 
 pub use key_laws::{
     answers_ascend, ascending_keeps_elements, key_order_is_total, keys_are_apart, queries_are_once,
@@ -15,3 +16,4 @@ pub use row_laws::{
 pub use skeleton_laws::{
     levels_are_by_operators, no_aggregate_is_listed, skeletons_are_listed, skeletons_are_once,
 };
+pub use standard_laws::{answers_are_standard_forms, queries_have_standard_forms};
