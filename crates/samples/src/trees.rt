@@ -24,6 +24,8 @@ const RIGHT: &Tree = &Tree::Base(1);
 
 const SAME: Pred = Pred::One(Atom::Cols(0, CmpOp::Eq, 2));
 
+const JOINED: &Tree = &Tree::Pair(Pairing::Join, LEFT, RIGHT, SAME);
+
 // The last three have a leaf that names no input before a column that isn't there, and that before types that differ.
 const TREES: &[Tree] = &[
     Tree::Filter(LEFT, Pred::One(Atom::Const(1, CmpOp::Eq, 0))),
@@ -114,11 +116,14 @@ fn input(rt: &impl Print, alloc: Global, inputs: &[Table]) -> Result<(), Failed>
     named(rt, "input", input_types(alloc, inputs, 1)?.as_slice())
 }
 
-// The types of the columns of a tree's copy.
-fn tree(rt: &impl Print, alloc: Global, inputs: &[Table], tree: &Tree) -> Result<(), Failed> {
+fn copied(alloc: Global, tree: &Tree) -> Result<Node, Failed> {
     let node = node(alloc, tree)?;
-    let copy = node.copy(alloc)?;
-    named(rt, "tree", node_types(alloc, inputs, &copy)?.as_slice())
+    Ok(node.copy(alloc)?)
+}
+
+// The types of a tree's columns, in which nothing is wrong.
+fn right(rt: &impl Print, alloc: Global, inputs: &[Table], node: &Node) -> Result<(), Failed> {
+    named(rt, "tree", node_types(alloc, inputs, node)?.as_slice())
 }
 
 fn all(rt: &impl Print, alloc: Global, task: &TaskParts, trees: &[Tree]) -> Result<(), Failed> {
@@ -131,12 +136,8 @@ fn all(rt: &impl Print, alloc: Global, task: &TaskParts, trees: &[Tree]) -> Resu
 pub fn samples(rt: &impl Print, alloc: Global) -> Result<(), Failed> {
     types(rt, alloc)?;
     let task = parts(alloc, &SHAPE)?;
-    input(rt, alloc, task.inputs.as_slice())?;
-    tree(
-        rt,
-        alloc,
-        task.inputs.as_slice(),
-        &Tree::Pair(Pairing::Join, LEFT, RIGHT, SAME),
-    )?;
+    let inputs = task.inputs.as_slice();
+    input(rt, alloc, inputs)?;
+    right(rt, alloc, inputs, &copied(alloc, JOINED)?)?;
     all(rt, alloc, &task, TREES)
 }
