@@ -80,9 +80,13 @@ const CASES: &[Case] = &[
     (Tree::Unite(Uniting::All, QUOTED, PLAIN), [1, 1], true),
 ];
 
-fn copied(alloc: Global, (tree, map, distinct): &Case) -> Result<Query, Failed> {
-    let query = query(alloc, tree, map, *distinct)?;
+fn copy(alloc: Global, query: &Query) -> Result<Query, Failed> {
     Ok(query.copy(alloc)?)
+}
+
+// A copy of a case's query.
+fn copied(alloc: Global, (tree, map, distinct): &Case) -> Result<Query, Failed> {
+    copy(alloc, &query(alloc, tree, map, *distinct)?)
 }
 
 // The SQL of a query.

@@ -158,18 +158,18 @@ fn answered_rows(
     )
 }
 
-// What a tree gives, and what its query gives that has its first column twice.
-fn tree(rt: &impl Print, alloc: Global, task: &Task, tree: &Tree) -> Result<(), Failed> {
-    let query = query(alloc, tree, &[0, 0], true)?;
+// What a query's tree gives, and what the query gives.
+fn both(rt: &impl Print, alloc: Global, task: &Task, query: &Query) -> Result<(), Failed> {
     evaluated(rt, alloc, task, &query.body)?;
     evaluated_rows(rt, alloc, task.parts(), &query.body)?;
-    answered(rt, alloc, task, &query)?;
-    answered_rows(rt, alloc, task.parts(), &query)
+    answered(rt, alloc, task, query)?;
+    answered_rows(rt, alloc, task.parts(), query)
 }
 
+// The same of trees, each in a query that has its first column twice.
 fn trees(rt: &impl Print, alloc: Global, task: &Task, trees: &[Tree]) -> Result<(), Failed> {
-    for it in trees {
-        tree(rt, alloc, task, it)?;
+    for tree in trees {
+        both(rt, alloc, task, &query(alloc, tree, &[0, 0], true)?)?;
     }
     Ok(())
 }

@@ -76,14 +76,13 @@ fn checked(rt: &impl Print, alloc: Global, task: &TaskParts, node: &Node) -> Res
     Ok(())
 }
 
-// A copy of a tree, in a box.
-fn boxed(alloc: Global, tree: &Tree) -> Result<Boxed<Node>, Failed> {
-    let node = node(alloc, tree)?;
+// A tree's copy in a box.
+fn boxed(alloc: Global, node: &Node) -> Result<Boxed<Node>, Failed> {
     Ok(node.boxed(alloc)?)
 }
 
 fn shown(rt: &impl Print, alloc: Global, task: &TaskParts, tree: &Tree) -> Result<(), Failed> {
-    let node = boxed(alloc, tree)?;
+    let node = boxed(alloc, &node(alloc, tree)?)?;
     typed(rt, alloc, task, node.get())?;
     checked(rt, alloc, task, node.get())
 }
@@ -116,8 +115,7 @@ fn input(rt: &impl Print, alloc: Global, inputs: &[Table]) -> Result<(), Failed>
     named(rt, "input", input_types(alloc, inputs, 1)?.as_slice())
 }
 
-fn copied(alloc: Global, tree: &Tree) -> Result<Node, Failed> {
-    let node = node(alloc, tree)?;
+fn copied(alloc: Global, node: &Node) -> Result<Node, Failed> {
     Ok(node.copy(alloc)?)
 }
 
@@ -138,6 +136,6 @@ pub fn samples(rt: &impl Print, alloc: Global) -> Result<(), Failed> {
     let task = parts(alloc, &SHAPE)?;
     let inputs = task.inputs.as_slice();
     input(rt, alloc, inputs)?;
-    right(rt, alloc, inputs, &copied(alloc, JOINED)?)?;
+    right(rt, alloc, inputs, &copied(alloc, &node(alloc, JOINED)?)?)?;
     all(rt, alloc, &task, TREES)
 }
