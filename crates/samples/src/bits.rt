@@ -66,21 +66,20 @@ fn pair(rt: &impl Print, alloc: Global, case: &(usize, usize, usize)) -> Result<
     either_in_place(rt, alloc, &a, &b)
 }
 
-// The places of the bits that are set, of one that is past the end, and whether all are.
-fn read(rt: &impl Print, alloc: Global) -> Result<(), Failed> {
-    let row = every(alloc, 130, 64)?;
+// The places of the bits that are set, one past the end, and whether all are set.
+fn read(rt: &impl Print, row: &BitRow) -> Result<(), Failed> {
     for i in 0..130 {
         if row.bit(i) == Some(true) {
             println!(rt; "bit {i} is set")?;
         }
     }
     println!(rt; "bit 130: {:?}, all: {}", row.bit(130), row.all())?;
-    let full = BitRow::full(alloc, 130)?;
-    println!(rt;
-        "of a full row {} are set, all: {}",
-        full.ones(),
-        full.all()
-    )?;
+    Ok(())
+}
+
+fn full(rt: &impl Print, alloc: Global) -> Result<(), Failed> {
+    let row = BitRow::full(alloc, 130)?;
+    println!(rt; "of a full row {} are set, all: {}", row.ones(), row.all())?;
     Ok(())
 }
 
@@ -93,5 +92,6 @@ fn pairs(rt: &impl Print, alloc: Global, cases: &[(usize, usize, usize)]) -> Res
 
 pub fn samples(rt: &impl Print, alloc: Global) -> Result<(), Failed> {
     pairs(rt, alloc, PAIRS)?;
-    read(rt, alloc)
+    read(rt, &every(alloc, 130, 64)?)?;
+    full(rt, alloc)
 }

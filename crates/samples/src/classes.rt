@@ -69,8 +69,7 @@ const CASES: &[Case] = &[
 
 fn case(rt: &impl Print, alloc: Global, case: &Case) -> Result<(), Failed> {
     print!(rt; "{} atoms, up to {} in one:", case.1.len(), case.2)?;
-    let atoms = rows(alloc, case.1)?;
-    listed(rt, alloc, case, atoms.as_slice())?;
+    listed(rt, alloc, case, rows(alloc, case.1)?.as_slice())?;
     println!(rt)?;
     Ok(())
 }

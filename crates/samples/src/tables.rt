@@ -51,9 +51,9 @@ fn compared(rt: &impl Print, alloc: Global, left: &str, right: &str) -> Result<(
 
 // How often a row stands in a table.
 fn counted(rt: &impl Print, alloc: Global, word: &str) -> Result<(), Failed> {
-    let table = table(alloc, "t", "a#\n1\n-\n1")?;
     let row = row(alloc, word)?.copy(alloc)?;
-    println!(rt; "{word} stands {} times", count(&table, &row))?;
+    let count = count(&table(alloc, "t", "a#\n1\n-\n1")?, &row);
+    println!(rt; "{word} stands {count} times")?;
     Ok(())
 }
 
