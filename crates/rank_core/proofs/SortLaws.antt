@@ -8,7 +8,7 @@ use Rattle.std.proofs.lemmas.List.Sorted.{sorted_far}
 use Rattle.query_core.specs.Answers.{placed, ascending}
 
 -- a fact of each element
-abbrev Each : {X : Type 0} → (X → Type 0) → List X → Type 0
+abbrev pub Each : {X : Type 0} → (X → Type 0) → List X → Type 0
 Each P [] = Unit {0}
 Each P (x ∷ xs) = P x × Each P xs
 
@@ -16,7 +16,7 @@ each_index : {X : Type 0} (P : X → Type 0) (xs : List X) → ((k : ℕ) (d : X
 each_index P [] h = tt
 each_index P (x ∷ xs) h = (h 0 x (omega arith), each_index P xs (λ k d below. h (suc k) d (omega arith)))
 
-each_map : {X : Type 0} (P Q : X → Type 0) (xs : List X) → ((w : X) → P w → Q w) → Each P xs → Each Q xs
+pub each_map : {X : Type 0} (P Q : X → Type 0) (xs : List X) → ((w : X) → P w → Q w) → Each P xs → Each Q xs
 each_map P Q [] h each = tt
 each_map P Q (x ∷ xs) h each = (h x each.0, each_map P Q xs h each.1)
 
@@ -37,15 +37,15 @@ filter_tail p x y xs ys heads e =
       | inr fails ↦ rw (heads, fails) at e
     ]
 
-filter_cons : {X : Type 0} (p : X → Bool) (x : X) (xs ys : List X) → filter p xs ≡ filter p ys → filter p (x ∷ xs) ≡ filter p (x ∷ ys)
+pub filter_cons : {X : Type 0} (p : X → Bool) (x : X) (xs ys : List X) → filter p xs ≡ filter p ys → filter p (x ∷ xs) ≡ filter p (x ∷ ys)
 filter_cons p x xs ys e = ap (λ t. cond (p x) (x ∷ t) t) e
 
 -- no element of a list comes before x
-abbrev NoneBefore : {X : Type 0} → (X → X → Bool) → X → List X → Type 0
+abbrev pub NoneBefore : {X : Type 0} → (X → X → Bool) → X → List X → Type 0
 NoneBefore lt x xs = Each (λ y. lt y x ≡ false) xs
 
 -- no element comes before an earlier one
-abbrev Rises : {X : Type 0} → (X → X → Bool) → List X → Type 0
+abbrev pub Rises : {X : Type 0} → (X → X → Bool) → List X → Type 0
 Rises lt [] = Unit {0}
 Rises lt (x ∷ xs) = NoneBefore lt x xs × Rises lt xs
 
@@ -80,7 +80,7 @@ head_after : {X : Type 0} (lt : X → X → Bool) (o : IsStrictWeakOrder lt) (x 
 head_after lt o x xs none y rest e = filter_head (λ w. lt w x ≡ false) (ties lt y) (x ∷ xs) (lt_self lt o x, none) y rest e
 
 -- two rising lists of which each element has the same ties in the same order are one
-rising_unique : {X : Type 0} (lt : X → X → Bool) (o : IsStrictWeakOrder lt) (xs ys : List X) → Rises lt xs → Rises lt ys → ((z : X) → filter (ties lt z) xs ≡ filter (ties lt z) ys) → xs ≡ ys
+pub rising_unique : {X : Type 0} (lt : X → X → Bool) (o : IsStrictWeakOrder lt) (xs ys : List X) → Rises lt xs → Rises lt ys → ((z : X) → filter (ties lt z) xs ≡ filter (ties lt z) ys) → xs ≡ ys
 rising_unique lt o [] [] up vp same = refl
 rising_unique lt o [] (y ∷ ys) up vp same = let e = same y ∙ kept_first lt o y ys in cc
 rising_unique lt o (x ∷ xs) [] up vp same = let e = sym (kept_first lt o x xs) ∙ same x in cc
@@ -110,7 +110,7 @@ placed_rises lt o x (y ∷ ys) up =
     ]
 
 -- what ties with an earlier element doesn't tie with a later one
-ties_apart : {X : Type 0} (lt : X → X → Bool) (o : IsStrictWeakOrder lt) (x y z : X) → lt y x ≡ true → ties lt z y ≡ true → ties lt z x ≡ false
+pub ties_apart : {X : Type 0} (lt : X → X → Bool) (o : IsStrictWeakOrder lt) (x y z : X) → lt y x ≡ true → ties lt z y ≡ true → ties lt z x ≡ false
 ties_apart lt o x y z first tie =
     elim (cases_Bool (ties lt z x)) [
       | inl holds ↦ absurd (false≢true (sym (o.chain y z x (ties_parts lt z y tie).1 (ties_parts lt z x holds).0) ∙ first))
@@ -128,11 +128,11 @@ placed_stable lt o x (y ∷ ys) z =
       | inr fails ↦ rw fails refl
     ]
 
-ascending_rises : {X : Type 0} (lt : X → X → Bool) (o : IsStrictWeakOrder lt) (xs : List X) → Rises lt (ascending lt xs)
+pub ascending_rises : {X : Type 0} (lt : X → X → Bool) (o : IsStrictWeakOrder lt) (xs : List X) → Rises lt (ascending lt xs)
 ascending_rises lt o [] = tt
 ascending_rises lt o (x ∷ xs) = placed_rises lt o x (ascending lt xs) (ascending_rises lt o xs)
 
-ascending_stable : {X : Type 0} (lt : X → X → Bool) (o : IsStrictWeakOrder lt) (xs : List X) (z : X) → filter (ties lt z) (ascending lt xs) ≡ filter (ties lt z) xs
+pub ascending_stable : {X : Type 0} (lt : X → X → Bool) (o : IsStrictWeakOrder lt) (xs : List X) (z : X) → filter (ties lt z) (ascending lt xs) ≡ filter (ties lt z) xs
 ascending_stable lt o [] z = refl
 ascending_stable lt o (x ∷ xs) z = placed_stable lt o x (ascending lt xs) z ∙ filter_cons (ties lt z) x (ascending lt xs) xs (ascending_stable lt o xs z)
 

@@ -2,8 +2,10 @@
 #![tactic(auto)]
 
 mod body;
+mod merging;
 mod rank_key;
 mod ranked;
 
+pub use merging::merge;
 pub use rank_key::{RankKey, before, key, key_order};
 pub use ranked::{Ranked, sort};
