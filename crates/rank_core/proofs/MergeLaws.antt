@@ -8,8 +8,11 @@ use Rattle.std.proofs.lemmas.Bool.{cases_Bool, false≢true}
 use Rattle.std.proofs.lemmas.List.{map-append, take-append-drop}
 use Rattle.std.proofs.lemmas.List.Concat.{flat_map-append}
 use Rattle.std.proofs.lemmas.List.Elements.{filter-append}
+use Rattle.std.proofs.lemmas.List.Sorted.{ranks_by}
 use Rattle.itertools.specs.List.{merge_at, merge_by}
-use Rattle.query_core.specs.Answers.{ascending}
+use Rattle.query_core.specs.Answers.{RankedQuery, ascending, comes_before}
+use Rattle.query_core.proofs.KeyLaws.{key_order_total}
+use Rattle.rank_core.specs.View.{ascends}
 use Rattle.rank_core.proofs.SortLaws.{Each, NoneBefore, Rises, each_map, filter_cons, rising_unique, ties_apart, ascending_rises, ascending_stable, map_ascending}
 
 -- what each element of two lists has, each of their merge has
@@ -89,7 +92,7 @@ module _ {X : Type 0} (lt : X → X → Bool) (o : IsStrictWeakOrder lt) where
   merge_ascends xs ys up vp = rising_unique lt o (merge_by (in_front lt) xs ys) (ascending lt (xs ++ ys)) (merge_rises xs ys up vp) (ascending_rises lt o (xs ++ ys)) (λ z. merge_stable xs ys z up ∙ sym (ascending_stable lt o (xs ++ ys) z))
 
   -- a list in ascending order is its own ascending order
-  pub ascending_ascends : (xs ys : List X) → xs ≡ ascending lt ys → ascending lt xs ≡ xs
+  ascending_ascends : (xs ys : List X) → xs ≡ ascending lt ys → ascending lt xs ≡ xs
   ascending_ascends xs ys e =
       let twice : ascending lt (ascending lt ys) ≡ ascending lt ys = rising_unique lt o (ascending lt (ascending lt ys)) (ascending lt ys) (ascending_rises lt o (ascending lt ys)) (ascending_rises lt o ys) (λ z. ascending_stable lt o (ascending lt ys) z) in
       ap (ascending lt) e ∙ twice ∙ sym e
@@ -126,3 +129,11 @@ flat_map_parts f n xs us vs e h =
     ap₂ (λ ss ts. flat_map f ss ++ flat_map f ts) e h
     ∙ sym (flat_map-append f (take n xs) (drop n xs))
     ∙ ap (flat_map f) (take-append-drop n xs)
+
+-- the order of ranked queries is one that sorting asks for
+pub queries_order : IsStrictWeakOrder comes_before
+queries_order = ranks_by key_order_total (λ (q : RankedQuery). q.key)
+
+-- what is the ascending order of some list, as a sort or a merge gives it, ascends
+pub ordered_ascends : (list given : List RankedQuery) → list ≡ ascending comes_before given → ascends list
+ordered_ascends list given e = ascending_ascends comes_before queries_order list given e

@@ -1,9 +1,12 @@
 //! The keys of queries, and answers in the order of their keys.
 
+ghost use Rattle.std.specs.Prelude.{IfOk};
+ghost use Rattle.rank_core.specs.View.{ascends, ranked_queries};
+
 use crate::fault::Failed;
 use crate::make::{Shape, Tree, parts, query};
 use predicate_core::{Atom, Pred};
-use rank_core::{Ranked, before, key, key_order, sort};
+use rank_core::{Ranked, before, key, key_order, merge, sort};
 use std::alloc::Global;
 use table_core::TaskParts;
 use value_core::CmpOp;
@@ -55,6 +58,19 @@ const CASES: &[Case] = &[
     (0, Tree::Base(3), &[0, 1], false, &[]),
 ];
 
+// Three lists of answers; a key stands in each of them.
+const FIRST: &[Case] = &[
+    (1, Tree::Base(0), &[0], false, &[]),
+    (0, Tree::Base(4), &[1], false, &[]),
+];
+
+const SECOND: &[Case] = &[(0, Tree::Base(2), &[1], false, &[])];
+
+const THIRD: &[Case] = &[
+    (0, Tree::Base(3), &[1], false, &[]),
+    (0, Tree::Base(1), &[0], false, &[]),
+];
+
 fn ranked(alloc: Global, task: &TaskParts, case: &Case) -> Result<Ranked, Failed> {
     let query = query(alloc, &case.1, case.2, case.3)?;
     let key = key(alloc, task, case.0, &query, case.4)?;
@@ -70,11 +86,22 @@ fn all_ranked(alloc: Global, task: &TaskParts, cases: &[Case]) -> Result<Vec<Ran
     Ok(list)
 }
 
-// The answers of the cases in the order of their keys.
-fn sorted(alloc: Global) -> Result<Vec<Ranked>, Failed> {
-    let mut list = all_ranked(alloc, &parts(alloc, &SHAPE)?, CASES)?;
+// The answers of some cases in the order of their keys.
+#[tactic(auto, using(rank_core::proofs::MergeLaws::ordered_ascends))]
+fn sorted(alloc: Global, cases: &[Case]) -> Result<Vec<Ranked>, Failed>
+    ensures { IfOk result (λ list. ascends (ranked_queries list)) }
+{
+    let mut list = all_ranked(alloc, &parts(alloc, &SHAPE)?, cases)?;
     sort(&mut list)?;
     Ok(list)
+}
+
+// The answers of the three lists in the order of their keys.
+fn merged(alloc: Global) -> Result<Vec<Ranked>, Failed> {
+    let first = sorted(alloc, FIRST)?;
+    let second = sorted(alloc, SECOND)?;
+    let third = sorted(alloc, THIRD)?;
+    Ok(merge(alloc, vec![in alloc; first, second, third]?)?)
 }
 
 // Each answer's body and its key.
@@ -96,8 +123,19 @@ fn ordered(rt: &impl Print, list: &[Ranked]) -> Result<(), Failed> {
     Ok(())
 }
 
+// Each answer's body, in one line.
+fn bodies(rt: &impl Print, list: &[Ranked]) -> Result<(), Failed> {
+    print!(rt; "merged:")?;
+    for answer in list {
+        print!(rt; " {:?}", answer.query.body)?;
+    }
+    println!(rt)?;
+    Ok(())
+}
+
 pub fn samples(rt: &impl Print, alloc: Global) -> Result<(), Failed> {
-    let list = sorted(alloc)?;
+    let list = sorted(alloc, CASES)?;
     listed(rt, list.as_slice())?;
-    ordered(rt, list.as_slice())
+    ordered(rt, list.as_slice())?;
+    bodies(rt, merged(alloc)?.as_slice())
 }
