@@ -5,7 +5,8 @@ use crate::make::value;
 use crate::show::{Cell, text};
 use std::alloc::Global;
 use value_core::{
-    Bytes, CmpOp, LONGEST_WORD, Value, Word, compare, concatenated, copied, order, read_int, same,
+    Bytes, CmpOp, LONGEST_WORD, Value, Word, compare, concatenated, copied, held, order, read_int,
+    same,
 };
 
 const SPELLINGS: &[&str] = &[
@@ -87,6 +88,18 @@ fn items(rt: &impl Print, alloc: Global) -> Result<(), Failed> {
     Ok(())
 }
 
+// A word of bytes that are known to be one, and numbers that their type holds or not.
+fn known(rt: &impl Print, alloc: Global) -> Result<(), Failed> {
+    let word = Word::new(alloc, b"id")?;
+    println!(rt; "the word {}", text(word.as_slice()))?;
+    println!(rt;
+        "held: {:?} and {:?}",
+        held(7u8.checked_add(1)),
+        held(255u8.checked_add(1))
+    )?;
+    Ok(())
+}
+
 pub fn samples(rt: &impl Print, alloc: Global) -> Result<(), Failed> {
     for spelling in SPELLINGS {
         number(rt, spelling)?;
@@ -97,5 +110,6 @@ pub fn samples(rt: &impl Print, alloc: Global) -> Result<(), Failed> {
     for bytes in [&[], &LONG[..1], &LONG[..LONGEST_WORD], LONG] {
         word(rt, alloc, bytes)?;
     }
+    known(rt, alloc)?;
     items(rt, alloc)
 }
