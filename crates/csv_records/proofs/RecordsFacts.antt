@@ -1,8 +1,11 @@
 -- Records that were reached one after the other, and then no more, are all the records of a text.
 use Rattle.std.proofs.Common.{◌≡◌, ◌≤◌, ◌<◌, ◌⊎◌, inl, inr, ℕ, zero, suc, List, [], ◌∷◌, ◌++◌, length, Option, Some, None, Bool, true, false, refl, arith}
-use Rattle.std.specs.Prelude.{◌==◌, if◌then◌else◌}
+use Rattle.std.proofs.lemmas.List.{length-append}
+use Rattle.std.proofs.lemmas.List.Elements.{All-cons, All-nil}
+use Rattle.std.specs.Prelude.{◌+◌, ◌==◌, if◌then◌else◌, All}
 use Rattle.csv.specs.Machine.{Read, after_end, ends_at_end, ends_with, field_after, fields_after, in_field, is_end, next_record, start_field, start_record, step}
-use Rattle.csv.specs.Reading.{ExplainsRead, Reached, default_config, is_flexible, records_from, stops_reader}
+use Rattle.csv.specs.Reading.{ExplainsRead, Reached, default_config, is_flexible, records_from, records_next, stops_reader, strip_bom}
+use Rattle.csv_records.specs.Records.{records_of}
 use Rattle.csv.specs.declared.error.ErrorKind.{ErrorKind}
 use Rattle.csv.specs.declared.error.ErrorKind.TheVariants as kind
 use Rattle.csv.specs.declared.reader.Reader.{Reader}
@@ -104,3 +107,40 @@ records-reached (suc n) (r ∷ rs) s s2 (c ∷ rest) ys b l h e =
     let shorter = next-shorter default_config s c rest h.0 h.1 in
     let more = records-reached n rs h.0.1 s2 h.0.2 ys (between-next s [] [] (c ∷ rest) h.0 h.1) (omega arith) h.3 e in
     rw (h.1, h.2, more) refl
+
+-- a record that was read has a field: the last one
+some-field : (fields : List (List ℕ)) (field : List ℕ) → 1 ≤ length (fields ++ (field ∷ []))
+some-field fields field = omega (arith, length-append fields (field ∷ []))
+
+end-field : (action : Action) (fields : List (List ℕ)) (field : List ℕ) → is_end action ≡ true → 1 ≤ length (fields_after action fields field)
+end-field act.EndRecord fields field e = some-field fields field
+end-field act.Skip fields field e = cc
+end-field act.Copy fields field e = cc
+end-field act.EndField fields field e = cc
+
+next-fields : (cfg : Config) (s : State) (fields : List (List ℕ)) (field xs : List ℕ) (p : Read) → next_record cfg s fields field xs ≡ Some p → 1 ≤ length p.0
+unfolding next_record
+next-fields cfg s fields field [] p e = elim (if-some (ends_at_end s) (fields ++ (field ∷ []), st.StartRecord, []) p None e) [ inl h ↦ rw (← h.1) (some-field fields field) | inr h ↦ cc ]
+next-fields cfg s fields field (c ∷ rest) p e =
+    elim (if-some (is_end (step cfg s c).1) (fields_after (step cfg s c).1 fields field, (step cfg s c).0, rest) p _ e) [
+      | inl h ↦ rw (← h.1) (end-field (step cfg s c).1 fields field h.0)
+      | inr h ↦ next-fields cfg (step cfg s c).0 (fields_after (step cfg s c).1 fields field) (field_after (step cfg s c).1 c field) rest p h
+    ]
+
+-- each record has a field
+abbrev pub HasField : List (List ℕ) → Type 0
+HasField fields = 1 ≤ length fields
+
+records-next-fields : (more : State → List ℕ → List (List (List ℕ))) (next : Option Read) → ((p : Read) → next ≡ Some p → HasField p.0)
+    → ((s : State) (xs : List ℕ) → All HasField (more s xs)) → All HasField (records_next more next)
+records-next-fields more None first rest = All-nil HasField
+records-next-fields more (Some p) first rest = All-cons HasField p.0 (more p.1 p.2) (first p refl) (rest p.1 p.2)
+
+records-from-fields : (cfg : Config) (n : ℕ) (s : State) (xs : List ℕ) → All HasField (records_from cfg n s xs)
+unfolding records_from
+records-from-fields cfg zero s xs = All-nil HasField
+records-from-fields cfg (suc n) s xs = records-next-fields (records_from cfg n) (next_record cfg s [] [] xs) (next-fields cfg s [] [] xs) (records-from-fields cfg n)
+
+pub records_have_fields : (text : List ℕ) → All HasField (records_of text)
+unfolding records_of
+records_have_fields text = records-from-fields default_config (length (strip_bom text) + 1) st.StartRecord (strip_bom text)

@@ -1,13 +1,19 @@
 //! Tables and tasks, read from the bytes of their files.
 
 use crate::fault::Failed;
-use crate::show::{Grid, text};
+use crate::show::{Grid, Key, text};
+use first_fault::Stop;
+use sqlite_items::Items;
 use std::alloc::Global;
-use table_read::read_table;
-use task_file::{TaskFile, read_task_file};
+use std::fmt::Display;
+use table_read::{Size, read_table};
+use task_file::{TaskFile, TaskFileFault, read_task_file};
 use toml::Table;
-use toml_keys::{array_at, has_only, number_or, read_document, table_at, text_at};
-use value_core::Word;
+use toml_keys::{
+    Bounds, KeyFault, array_of, check_known, number_or, read_document, table_at, text_at, under,
+    value_at,
+};
+use value_core::{ColType, Word};
 
 // A name of 64 bytes, and then a name and a text of one more.
 const LONG_NAME: &[u8] = b"0123456789abcdef0123456789abcdef0123456789abcdef0123456789abcdef";
@@ -40,24 +46,80 @@ const TABLES: &[&[u8]] = &[
     LONGER_TEXT,
 ];
 
-// The table of at most 3 columns and 2 rows that a file tells.
-fn table(rt: &impl Print, alloc: Global, bytes: &[u8]) -> Result<(), Failed> {
+// The table of at most 3 columns and 2 rows that a file tells, or what is wrong with the file.
+fn table(
+    rt: &impl Print,
+    alloc: Global,
+    types: Option<Items<ColType>>,
+    bytes: &[u8],
+) -> Result<(), Failed> {
     let name = Word::of(alloc, b"t")?;
-    match read_table(alloc, name, 3, 2, bytes)? {
-        Some(table) => println!(rt; "{}", Grid(&table))?,
-        None => println!(rt; "no table")?,
+    let size = Size {
+        columns: 3,
+        rows: 2,
+    };
+    match read_table(alloc, name, size, &types, bytes) {
+        Ok(table) => println!(rt; "{}", Grid(&table))?,
+        Err(Stop::Fault(fault)) => println!(rt; "{fault:?}")?,
+        Err(Stop::OutOfMemory) => return Err(Failed::NoMemory),
     }
     Ok(())
 }
 
-// The keys of a table: a number up to 4, a text up to 3 bytes, an array of one or two, and whether there are others.
-fn keys(rt: &impl Print, table: &Table) -> Result<(), Failed> {
-    let number = number_or(table, "number", 2, 0, 4);
-    let word = text(text_at(table, "text", 3).unwrap_or(b"no text"));
-    let has_array = array_at(table, "array", 1, 2).is_some();
-    let has_only = has_only(table, &["number", "text", "array"]);
-    println!(rt; "  {number:?}, {word:?}, an array: {has_array}, no other key: {has_only}")?;
+const TYPED: &[(&[ColType], &[u8])] = &[
+    (&[ColType::Text], b"n\n007\n\"\"\n"),
+    (&[ColType::Int], b"n\n\"\"\n"),
+    (&[ColType::Text, ColType::Int], b"a,b\nx,1\ny,2\n"),
+    (&[ColType::Int], b"a,b\n"),
+    (&[ColType::Int, ColType::Int], b"a,b\n1,2\n3\n"),
+    (&[ColType::Int, ColType::Int], b"a,b\n1,2\n3,x\n"),
+];
+
+// What was read at a key, or what is wrong with it.
+fn at_key<T: Display + Drop>(
+    rt: &impl Print,
+    answer: Result<T, Stop<KeyFault>>,
+) -> Result<(), Failed> {
+    match answer {
+        Ok(value) => println!(rt; "  {value}")?,
+        Err(Stop::Fault(fault)) => println!(rt; "  {}", Key(&fault))?,
+        Err(Stop::OutOfMemory) => return Err(Failed::NoMemory),
+    }
     Ok(())
+}
+
+// The text at a key.
+fn word<'a>(alloc: Global, table: &'a Table, key: &str) -> Result<&'a str, Stop<KeyFault>> {
+    match text_at(alloc, table, key, 3) {
+        Ok(bytes) => Ok(text(bytes)),
+        Err(stop) => Err(stop),
+    }
+}
+
+// That there are no other keys.
+fn alone(alloc: Global, table: &Table) -> Result<&'static str, Stop<KeyFault>> {
+    match check_known(alloc, table, &["number", "text", "array"]) {
+        Ok(()) => Ok("no other key"),
+        Err(stop) => Err(stop),
+    }
+}
+
+// Whether an array of one or two values stands at a key.
+fn has_array(table: &Table) -> bool {
+    match value_at(table, "array") {
+        Some(value) => array_of(value, 1, 2).is_some(),
+        None => false,
+    }
+}
+
+const UP_TO_FOUR: Bounds = Bounds { low: 0, high: 4 };
+
+// The keys of a table: a number up to 4, a text up to 3 bytes, an array of one or two, and whether there are others.
+fn keys(rt: &impl Print, alloc: Global, table: &Table) -> Result<(), Failed> {
+    at_key(rt, number_or(alloc, table, "number", 2, UP_TO_FOUR))?;
+    at_key(rt, word(alloc, table, "text"))?;
+    println!(rt; "  an array: {}", has_array(table))?;
+    at_key(rt, alone(alloc, table))
 }
 
 // The keys of a document, and of a table in it.
@@ -67,10 +129,10 @@ fn document(rt: &impl Print, alloc: Global, bytes: &[u8]) -> Result<(), Failed> 
         println!(rt; "  no document")?;
         return Ok(());
     };
-    keys(rt, &table)?;
-    match table_at(&table, "table") {
-        Some(inner) => keys(rt, inner),
-        None => Ok(()),
+    keys(rt, alloc, &table)?;
+    match table_at(alloc, &table, "table") {
+        Ok(inner) => keys(rt, alloc, inner),
+        Err(stop) => at_key::<&str>(rt, Err(under(alloc, "at ", stop))),
     }
 }
 
@@ -140,8 +202,12 @@ fn asked(rt: &impl Print, task: &TaskFile) -> Result<(), Failed> {
             text(input.file.as_slice())
         )?;
     }
-    let numbers = [task.ops, task.leaves, task.atoms];
-    println!(rt; "output {}, {numbers:?}", text(task.output.as_slice()))?;
+    let numbers = [task.ops, task.leaves, task.atoms, task.show];
+    println!(rt;
+        "output {}, {numbers:?}, {}",
+        text(task.output.file.as_slice()),
+        task.budget
+    )?;
     println!(rt;
         "  {} constants, {:?}",
         task.constants.len(),
@@ -153,16 +219,26 @@ fn asked(rt: &impl Print, task: &TaskFile) -> Result<(), Failed> {
 // A task file of two parts.
 fn task(rt: &impl Print, alloc: Global, front: &str, back: &str) -> Result<(), Failed> {
     let source = format!(in alloc; "{front}{back}")?;
-    match read_task_file(alloc, source.as_bytes())? {
-        Some(task) => asked(rt, &task)?,
-        None => println!(rt; "no task file")?,
+    match read_task_file(alloc, source.as_bytes()) {
+        Ok(task) => asked(rt, &task),
+        Err(Stop::Fault(TaskFileFault::BadToml)) => {
+            println!(rt; "not TOML")?;
+            Ok(())
+        }
+        Err(Stop::Fault(TaskFileFault::Key(fault))) => {
+            println!(rt; "{}", Key(&fault))?;
+            Ok(())
+        }
+        Err(Stop::OutOfMemory) => Err(Failed::NoMemory),
     }
-    Ok(())
 }
 
 pub fn samples(rt: &impl Print, alloc: Global) -> Result<(), Failed> {
     for bytes in TABLES {
-        table(rt, alloc, bytes)?;
+        table(rt, alloc, None, bytes)?;
+    }
+    for (types, bytes) in TYPED {
+        table(rt, alloc, Some(Items::from_slice(alloc, types)?), bytes)?;
     }
     for bytes in DOCUMENTS {
         document(rt, alloc, bytes)?;

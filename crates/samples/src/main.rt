@@ -1,6 +1,7 @@
 //! Each public call that takes memory, shown at least once: the program prints what it gives.
 #![tactic(auto)]
 
+mod bad_tasks;
 mod bits;
 mod classes;
 mod edge;
@@ -55,5 +56,6 @@ fn main(rt: HostRuntime) -> Result<(), Failed> {
     edge::write(&rt, &mut StdSink::new(rt.stdout()), b"abc\n")?;
     readings::samples(&rt, alloc)?;
     runs::samples(&rt, alloc)?;
+    bad_tasks::samples(&rt, alloc)?;
     Ok(())
 }

@@ -7,7 +7,6 @@ use io_edge::{Folder, MemFolder, SureFolder};
 use std::alloc::Global;
 use table_core::TaskParts;
 use task_read::{TaskEnd, read_task};
-use value_core::Bytes;
 
 const TASK: (&str, &str) = (
     "task.toml",
@@ -71,15 +70,14 @@ fn parts(rt: &impl Print, parts: &TaskParts) -> Result<(), Failed> {
 
 // The task of a folder, or why there is none.
 fn task<F: Folder>(rt: &impl Print, alloc: Global, folder: &mut F) -> Result<(), Failed> {
-    let name = Bytes::of(alloc, b"task.toml")?;
-    match read_task(alloc, folder, &name) {
+    match read_task(alloc, folder, b"task.toml") {
         Ok(task) => parts(rt, task.parts()),
         Err(TaskEnd::ReadFault { file }) => {
             println!(rt; "can't read {}", text(file.as_slice()))?;
             Ok(())
         }
-        Err(TaskEnd::WrongForm) => {
-            println!(rt; "wrong form")?;
+        Err(TaskEnd::Bad(_)) => {
+            println!(rt; "something is wrong")?;
             Ok(())
         }
         Err(TaskEnd::OutOfMemory) => Err(Failed::NoMemory),

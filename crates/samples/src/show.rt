@@ -2,6 +2,7 @@
 
 use std::{fmt, str};
 use table_core::{Column, Table, Tuple};
+use toml_keys::KeyFault;
 use value_core::Value;
 
 /// The text of some bytes.
@@ -71,5 +72,19 @@ impl fmt::Display for Grid<'_> {
             write!(f, " [{}]", Head(column))?;
         }
         write!(f, "{}", Rows(self.0.tuples()))
+    }
+}
+
+/// What is wrong with a key.
+#[derive(Clone, Copy)]
+pub struct Key<'a>(pub &'a KeyFault);
+
+impl fmt::Display for Key<'_> {
+    fn fmt<W: fmt::Write>(&self, f: &mut fmt::Formatter<W>) -> fmt::Result {
+        match self.0 {
+            KeyFault::UnknownKey { key } => write!(f, "unknown {}", text(key.as_slice())),
+            KeyFault::MissingKey { key } => write!(f, "missing {}", text(key.as_slice())),
+            KeyFault::BadKey { key } => write!(f, "bad {}", text(key.as_slice())),
+        }
     }
 }

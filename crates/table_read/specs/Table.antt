@@ -1,35 +1,21 @@
--- The table that the bytes of a file tell: a header, and the rows under it.
-use Rattle.std.specs.Prelude.{ℕ, ◌+◌, Bool, true, not, ◌&&◌, ◌||◌, ◌==◌, nat_eq, nat_le, nat_lt, if◌then◌else◌, List, [], ◌∷◌, ◌++◌, length, map, slice_get, Option, Some, None, is_some, option_map, unwrap_or}
+-- The table that the bytes of a file tell: a header, and the rows under it; else the first fault of the file.
+use Rattle.std.specs.Prelude.{ℕ, ◌+◌, Bool, true, not, ◌&&◌, ◌||◌, ◌==◌, nat_eq, nat_le, nat_lt, if◌then◌else◌, List, [], ◌∷◌, ◌++◌, length, slice_get, Option, Some, None, is_some, option_map, unwrap_or, Result, Ok, Err}
 use Rattle.std.specs.List.{list_all, list_any}
 use Rattle.std.specs.Cmp.Lexicographic.{pointwise}
 use Rattle.csv_records.specs.Records.{records_of}
+use Rattle.first_fault.specs.Reading.{◌>>=◌, found_or, kept_or, each}
 use Rattle.value_core.specs.declared.word.TheConstants.{LONGEST_WORD}
 use Rattle.value_core.specs.declared.value.Value.{Value}
 use Rattle.value_core.specs.declared.value.Value.TheVariants.{Null, Int, Text}
 use Rattle.value_core.specs.declared.value.ColType.{ColType}
 use Rattle.value_core.specs.declared.value.ColType.TheVariants as kind
-use Rattle.table_core.specs.Rows.{Row, TableData}
-use Rattle.table_core.specs.declared.column.Column.{Column}
 use Rattle.value_core.specs.Integer.{integer_of}
 use Rattle.value_core.specs.Text.{is_text}
-
-infixl 10 ◌>>=◌
--- the next step, of what the step before gave
-abbrev pub ◌>>=◌ : {A B : Type 0} → Option A → (A → Option B) → Option B
-None >>= next = None
-(Some x) >>= next = next x
-
--- a value, where the rule is kept
-abbrev pub when : {A : Type 0} → Bool → A → Option A
-when kept x = if kept then Some x else None
-
--- the values, where each is there
-abbrev pub all_some : {A : Type 0} → List (Option A) → Option (List A)
-all_some [] = Some []
-all_some (found ∷ rest) = do
-  x ← found
-  xs ← all_some rest
-  Some (x ∷ xs)
+use Rattle.table_core.specs.Rows.{Row, TableData}
+use Rattle.table_core.specs.declared.column.Column.{Column}
+use Rattle.table_read.specs.declared.size.Size.{Size}
+use Rattle.table_read.specs.declared.fault.TableFault.{TableFault}
+use Rattle.table_read.specs.declared.fault.TableFault.TheVariants.{BadText, NoHeader, TooManyColumns, BadName, BadTypes, TooManyRows, BadWidth, BadCell}
 
 -- a record is the list of its fields, each the list of its bytes
 abbrev pub Fields : Type 0
@@ -41,7 +27,7 @@ field_at fields at = unwrap_or (slice_get fields at) []
 
 -- a word, where the bytes are neither too few nor too many for one
 abbrev pub word_of : List ℕ → Option (List ℕ)
-word_of bytes = when (nat_lt 0 (length bytes) && nat_le (length bytes) LONGEST_WORD) bytes
+word_of bytes = if nat_lt 0 (length bytes) && nat_le (length bytes) LONGEST_WORD then Some bytes else None
 
 -- whether a name is one of the earlier ones
 abbrev pub is_repeated : List (List ℕ) → List ℕ → Bool
@@ -51,23 +37,29 @@ is_repeated earlier name = list_any (λ n. pointwise nat_eq n name) earlier
 abbrev pub name_of : List (List ℕ) → List ℕ → Option (List ℕ)
 name_of earlier name = if is_repeated earlier name then None else word_of name
 
--- the names after the earlier ones, and those
-abbrev pub names_after : List (List ℕ) → List (List ℕ) → Option (List (List ℕ))
-names_after earlier [] = Some earlier
-names_after earlier (field ∷ fields) = do
-  name ← name_of earlier field
-  names_after (earlier ++ name ∷ []) fields
+-- the earlier names, and those of the columns from this place on
+abbrev pub names_after : ℕ → List (List ℕ) → Fields → Result (List (List ℕ)) TableFault
+names_after at earlier [] = Ok earlier
+names_after at earlier (field ∷ fields) = do
+  name ← found_or (BadName (at + 1)) (name_of earlier field)
+  names_after (at + 1) (earlier ++ name ∷ []) fields
 
 -- the names of the columns: at most so many
-unfoldable pub names_of : ℕ → Fields → Option (List (List ℕ))
+unfoldable pub names_of : ℕ → Fields → Result (List (List ℕ)) TableFault
 names_of widest header = do
-  fields ← when (nat_le (length header) widest) header
-  names_after [] fields
+  fields ← kept_or TooManyColumns (nat_le (length header) widest) header
+  names_after 0 [] fields
 
--- whether the rows from this number on are within the limit, and each has as many fields as there are columns
-abbrev pub are_rows : ℕ → ℕ → ℕ → List Fields → Bool
-are_rows number longest width [] = true
-are_rows number longest width (row ∷ rows) = (nat_lt number longest && (length row == width)) && are_rows (number + 1) longest width rows
+-- as many types as there are columns, where types are declared
+abbrev pub are_types_of : ℕ → Option (List ColType) → Bool
+are_types_of width None = true
+are_types_of width (Some types) = length types == width
+
+-- the row at this place: not one too many, and with as many fields as there are columns
+abbrev pub line_at : ℕ → ℕ → ℕ → Fields → Result Fields TableFault
+line_at longest width at row = do
+  line ← kept_or TooManyRows (nat_lt at longest) row
+  kept_or (BadWidth (at + 1)) (length line == width) line
 
 -- whether a row has something in a column
 abbrev pub is_filled : ℕ → Fields → Bool
@@ -85,14 +77,25 @@ has_filled at rows = list_any (is_filled at) rows
 abbrev pub has_integers : ℕ → List Fields → Bool
 has_integers at rows = list_all (may_be_integer at) rows
 
--- the type of a column: whole numbers, where it has some and nothing else, else texts
+-- the type of a column that is read off the rows: whole numbers, where it has some and nothing else, else texts
 abbrev pub kind_of : ℕ → List Fields → ColType
 kind_of at rows = if has_filled at rows && has_integers at rows then kind.Int else kind.Text
 
--- the columns of these names, of which the first stands at this place
-abbrev pub columns_from : ℕ → List (List ℕ) → List Fields → List Column
-columns_from at [] rows = []
-columns_from at (name ∷ names) rows = record { name = name; kind = kind_of at rows } ∷ columns_from (at + 1) names rows
+-- the columns of these names, of which the first stands at this place, with types read off the rows
+abbrev pub inferred_from : ℕ → List (List ℕ) → List Fields → List Column
+inferred_from at [] rows = []
+inferred_from at (name ∷ names) rows = record { name = name; kind = kind_of at rows } ∷ inferred_from (at + 1) names rows
+
+-- the columns of these names and types
+abbrev pub declared_as : List (List ℕ) → List ColType → List Column
+declared_as [] types = []
+declared_as (name ∷ names) [] = []
+declared_as (name ∷ names) (type ∷ types) = record { name = name; kind = type } ∷ declared_as names types
+
+-- the columns of these names: with the declared types, or with those that are read off the rows
+abbrev pub columns_of : Option (List ColType) → List (List ℕ) → List Fields → List Column
+columns_of None names rows = inferred_from 0 names rows
+columns_of (Some types) names rows = declared_as names types
 
 -- the value that a field which isn't empty spells in a column of this type
 abbrev pub filled_cell : ColType → List ℕ → Option Value
@@ -103,38 +106,35 @@ filled_cell kind.Text field = option_map Text (word_of field)
 abbrev pub cell_of : ColType → List ℕ → Option Value
 cell_of type field = if length field == 0 then Some Null else filled_cell type field
 
--- the values that a row spells in these columns, of which the first stands at this place
-abbrev pub row_from : ℕ → List Column → Fields → Option Row
-row_from at [] row = Some []
-row_from at (column ∷ columns) row = do
-  cell ← cell_of column.kind (field_at row at)
-  cells ← row_from (at + 1) columns row
-  Some (cell ∷ cells)
+-- the value of the row at this place in a column at its place
+abbrev pub cell_at : ℕ → Fields → ℕ → Column → Result Value TableFault
+cell_at row fields at column = found_or (BadCell (row + 1) (at + 1)) (cell_of column.kind (field_at fields at))
 
--- the values that the rows spell
-abbrev pub tuples_of : List Column → List Fields → Option (List Row)
-tuples_of columns rows = all_some (map (row_from 0 columns) rows)
+-- the values that the row at this place spells in the columns
+abbrev pub tuple_at : List Column → ℕ → Fields → Result Row TableFault
+tuple_at columns row fields = each (cell_at row fields) 0 columns
 
 -- the table of these columns, with what the rows spell in them
-unfoldable pub table_with : List ℕ → List Column → List Fields → Option TableData
+unfoldable pub table_with : List ℕ → List Column → List Fields → Result TableData TableFault
 table_with name columns rows = do
-  tuples ← tuples_of columns rows
-  Some (record { name = name; columns = columns; rows = tuples })
+  tuples ← each (tuple_at columns) 0 rows
+  Ok (record { name = name; columns = columns; rows = tuples })
 
--- the table of this header and these rows, with at most so many columns and rows
-unfoldable pub table_under : List ℕ → ℕ → ℕ → Fields → List Fields → Option TableData
-table_under name widest longest header rows = do
-  names ← names_of widest header
-  lines ← when (are_rows 0 longest (length names) rows) rows
-  table_with name (columns_from 0 names lines) lines
+-- the table of this header and these rows
+unfoldable pub table_under : List ℕ → Size → Option (List ColType) → Fields → List Fields → Result TableData TableFault
+table_under name size types header rows = do
+  names ← names_of size.columns header
+  declared ← kept_or BadTypes (are_types_of (length names) types) types
+  lines ← each (line_at size.rows (length names)) 0 rows
+  table_with name (columns_of declared names lines) lines
 
 -- the first record is the header, and the others are the rows
-abbrev pub table_in : List ℕ → ℕ → ℕ → List Fields → Option TableData
-table_in name widest longest [] = None
-table_in name widest longest (header ∷ rows) = table_under name widest longest header rows
+abbrev pub table_in : List ℕ → Size → Option (List ColType) → List Fields → Result TableData TableFault
+table_in name size types [] = Err NoHeader
+table_in name size types (header ∷ rows) = table_under name size types header rows
 
--- the table of this name that these bytes tell
-unfoldable pub table_of : List ℕ → ℕ → ℕ → List ℕ → Option TableData
-table_of name widest longest bytes = do
-  text ← when (is_text bytes) bytes
-  table_in name widest longest (records_of text)
+-- the table of this name that these bytes tell, of at most this size and with these types where they are declared
+unfoldable pub table_of : List ℕ → Size → Option (List ColType) → List ℕ → Result TableData TableFault
+table_of name size types bytes = do
+  text ← kept_or BadText (is_text bytes) bytes
+  table_in name size types (records_of text)

@@ -1,8 +1,9 @@
-ghost use Rattle.std.specs.Prelude.{◌≡◌, IfOk};
-ghost use Rattle.table_read.specs.Table.{columns_from, has_filled, has_integers, kind_of, may_be_integer, is_filled};
+ghost use Rattle.std.specs.Prelude.{◌≡◌, ◌≤◌, length, vec_len, IfOk, true};
+ghost use Rattle.table_read.specs.Table.{are_types_of, columns_of, declared_as, has_filled, has_integers, inferred_from, is_filled, kind_of, may_be_integer};
 
 use crate::cell::field;
 use csv_records::Record;
+use sqlite_items::Items;
 use std::alloc::Global;
 use table_core::Column;
 use value_core::{ColType, OutOfMemory, Word, read_int};
@@ -47,13 +48,20 @@ fn kind_of(at: usize, rows: &[Record]) -> ColType
     }
 }
 
-/// The columns of these names, with their types.
-pub(crate) fn columns_of(
-    alloc: Global,
-    names: &[Word],
-    rows: &[Record],
-) -> Result<Vec<Column>, OutOfMemory>
-    ensures { IfOk result (λ columns. columns.items ≡ columns_from 0 names.now rows.now) }
+/// Whether there are as many types as columns, where types are declared.
+pub(crate) fn are_types_of(width: usize, types: &Option<Items<ColType>>) -> bool
+    ensures { result ≡ are_types_of width types.now }
+{
+    match types {
+        None => true,
+        Some(types) => types.len() == width,
+    }
+}
+
+// The columns of these names, with types read off the rows.
+fn inferred(alloc: Global, names: &[Word], rows: &[Record]) -> Result<Vec<Column>, OutOfMemory>
+    ensures columns { IfOk result (λ columns. columns.items ≡ inferred_from 0 names.now rows.now) }
+    ensures width { IfOk result (λ columns. vec_len columns ≤ length names.now) }
 {
     let mut columns = Vec::new(alloc);
     for (at, name) in names.iter().enumerate() {
@@ -64,4 +72,38 @@ pub(crate) fn columns_of(
         columns.push(column)?;
     }
     Ok(columns)
+}
+
+// The columns of these names and types.
+fn declared(alloc: Global, names: &[Word], types: &[ColType]) -> Result<Vec<Column>, OutOfMemory>
+    requires { length types.now ≡ length names.now }
+    ensures columns { IfOk result (λ columns. columns.items ≡ declared_as names.now types.now) }
+    ensures width { IfOk result (λ columns. vec_len columns ≤ length names.now) }
+{
+    let mut columns = Vec::new(alloc);
+    for (at, name) in names.iter().enumerate() {
+        let column = Column {
+            name: name.copy(alloc)?,
+            kind: types[at],
+        };
+        columns.push(column)?;
+    }
+    Ok(columns)
+}
+
+/// The columns of these names: with the declared types, or with those that are read off the rows.
+pub(crate) fn columns_of(
+    alloc: Global,
+    types: &Option<Items<ColType>>,
+    names: &[Word],
+    rows: &[Record],
+) -> Result<Vec<Column>, OutOfMemory>
+    requires { are_types_of (length names.now) types.now ≡ true }
+    ensures columns { IfOk result (λ columns. columns.items ≡ columns_of types.now names.now rows.now) }
+    ensures width { IfOk result (λ columns. vec_len columns ≤ length names.now) }
+{
+    match types {
+        None => inferred(alloc, names, rows),
+        Some(types) => declared(alloc, names, types.as_slice()),
+    }
 }

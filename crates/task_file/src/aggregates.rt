@@ -1,45 +1,50 @@
-ghost use Rattle.std.specs.Prelude.{◌≡◌, map};
+ghost use Rattle.std.specs.Prelude.{◌≡◌, IfOk, codes, map, []};
 ghost use Rattle.std.specs.Str.{bytes_eq};
 ghost use Rattle.toml.specs.View.{table_view, view};
-ghost use Rattle.toml_keys.specs.Keys.{is_among};
-ghost use Rattle.task_file.specs.Reading.{Reads};
-ghost use Rattle.task_file.specs.TaskFile.{aggregate_list_of, aggregate_name_of, aggregates_named, aggregates_of, all_distinct, all_some};
+ghost use Rattle.first_fault.specs.Answer.{Reads};
+ghost use Rattle.toml_keys.specs.Keys.{is_among, optional};
+ghost use Rattle.task_file.specs.TaskFile.{aggregate_name_of, aggregates_named, aggregates_of, all_distinct, all_some};
 
-use crate::fault::TaskFault;
+use first_fault::Stop;
 use sqlite_items::Items;
 use std::alloc::Global;
 use table_core::AggSet;
 use toml::{Table, Value};
-use toml_keys::{array_of, is_among, value_at};
-use value_core::Bytes;
+use toml_keys::{KeyFault, array_of, bad_key, is_among, value_at};
+use value_core::{Bytes, OutOfMemory};
 
 // As many as there are aggregates.
 const MOST_AGGREGATES: usize = 6;
 
+// The name of an aggregate that a value is, if it is one.
 #[tactic(auto, unfolding(crate::specs::TaskFile::aggregate_name_of))]
-fn read_name(alloc: Global, value: &Value) -> Result<Bytes, TaskFault>
-    ensures { Reads result (aggregate_name_of (view value.now)) }
+fn aggregate_name_of(alloc: Global, value: &Value) -> Result<Option<Bytes>, OutOfMemory>
+    ensures { IfOk result (λ name. name ≡ aggregate_name_of (view value.now)) }
 {
     let Some(name) = value.as_str() else {
-        return Err(TaskFault::WrongForm);
+        return Ok(None);
     };
     if !is_among(
         name,
         &["count(*)", "count", "count distinct", "sum", "min", "max"],
     ) {
-        return Err(TaskFault::WrongForm);
+        return Ok(None);
     }
-    Ok(Bytes::of(alloc, name.as_bytes())?)
+    Ok(Some(Bytes::of(alloc, name.as_bytes())?))
 }
 
-fn read_each(alloc: Global, values: &[Value]) -> Result<Items<Bytes>, TaskFault>
-    ensures { Reads result (all_some (map aggregate_name_of (map view values.now))) }
+// The names of aggregates that these values are, if each is one.
+fn read_each(alloc: Global, values: &[Value]) -> Result<Option<Items<Bytes>>, OutOfMemory>
+    ensures { IfOk result (λ names. names ≡ all_some (map aggregate_name_of (map view values.now))) }
 {
     let mut names = Items::new(alloc);
     for value in values {
-        names.push(read_name(alloc, value)?)?;
+        let Some(name) = aggregate_name_of(alloc, value)? else {
+            return Ok(None);
+        };
+        names.push(name)?;
     }
-    Ok(names)
+    Ok(Some(names))
 }
 
 // Whether a name is one of these.
@@ -77,28 +82,34 @@ fn aggregates_named(names: &[Bytes]) -> AggSet
     }
 }
 
-#[tactic(auto, unfolding(crate::specs::TaskFile::aggregate_list_of))]
-fn read_list(alloc: Global, value: &Value) -> Result<AggSet, TaskFault>
-    ensures { Reads result (aggregate_list_of (view value.now)) }
+// The aggregates of an array, if it is one of distinct names of aggregates.
+#[tactic(auto, unfolding(crate::specs::TaskFile::aggregates_of))]
+fn aggregates_of(alloc: Global, value: &Value) -> Result<Option<AggSet>, OutOfMemory>
+    ensures { IfOk result (λ aggregates. aggregates ≡ aggregates_of (view value.now)) }
 {
     let Some(values) = array_of(value, 0, MOST_AGGREGATES) else {
-        return Err(TaskFault::WrongForm);
+        return Ok(None);
     };
-    let names = read_each(alloc, values)?;
+    let Some(names) = read_each(alloc, values)? else {
+        return Ok(None);
+    };
     if all_distinct(names.as_slice()) {
-        Ok(aggregates_named(names.as_slice()))
+        Ok(Some(aggregates_named(names.as_slice())))
     } else {
-        Err(TaskFault::WrongForm)
+        Ok(None)
     }
 }
 
 /// The aggregates of a task: none where the key is absent.
-#[tactic(auto, unfolding(crate::specs::TaskFile::aggregates_of))]
-pub(crate) fn read_aggregates(alloc: Global, table: &Table) -> Result<AggSet, TaskFault>
-    ensures { Reads result (aggregates_of (table_view table.now)) }
+#[tactic(auto, unfolding(toml_keys::specs::Keys::optional))]
+pub(crate) fn aggregates_at(alloc: Global, table: &Table) -> Result<AggSet, Stop<KeyFault>>
+    ensures { Reads result (optional (codes "aggregates") (aggregates_named []) aggregates_of (table_view table.now)) }
 {
-    match value_at(table, "aggregates") {
-        None => Ok(AggSet::NONE),
-        Some(value) => read_list(alloc, value),
+    let Some(value) = value_at(table, "aggregates") else {
+        return Ok(AggSet::NONE);
+    };
+    match aggregates_of(alloc, value)? {
+        Some(aggregates) => Ok(aggregates),
+        None => Err(bad_key(alloc, "aggregates")),
     }
 }

@@ -1,31 +1,22 @@
-use std::alloc::AllocError;
-use value_core::OutOfMemory;
+ghost use Rattle.std.specs.Prelude.{◌≡◌};
+ghost use Rattle.task_file.specs.TaskFile.{stop_of_key};
 
-/// Why a task isn't read.
-#[derive(Clone, Copy, Debug, PartialEq, Eq)]
-pub(crate) enum TaskFault {
-    WrongForm,
-    OutOfMemory,
+use first_fault::Stop;
+use toml_keys::KeyFault;
+
+/// What is wrong with a task file: it isn't TOML, or one of its keys is at fault.
+#[derive(Debug, Drop)]
+pub enum TaskFileFault {
+    BadToml,
+    Key(KeyFault),
 }
 
-impl From<OutOfMemory> for TaskFault {
-    ghost use Rattle.std.specs.Prelude.{◌≡◌};
-    ghost use Rattle.task_file.specs.declared.fault.TaskFault.TheVariants as fault;
-
-    ghost from_gives = { λ _ given. given ≡ fault.OutOfMemory };
-
-    fn from(_fault: OutOfMemory) -> TaskFault {
-        TaskFault::OutOfMemory
-    }
-}
-
-impl From<AllocError> for TaskFault {
-    ghost use Rattle.std.specs.Prelude.{◌≡◌};
-    ghost use Rattle.task_file.specs.declared.fault.TaskFault.TheVariants as fault;
-
-    ghost from_gives = { λ _ given. given ≡ fault.OutOfMemory };
-
-    fn from(_fault: AllocError) -> TaskFault {
-        TaskFault::OutOfMemory
+// The stop of a key, as that of the file.
+pub(crate) fn stop_of_key(stop: Stop<KeyFault>) -> Stop<TaskFileFault>
+    ensures { result ≡ stop_of_key stop }
+{
+    match stop {
+        Stop::Fault(fault) => Stop::Fault(TaskFileFault::Key(fault)),
+        Stop::OutOfMemory => Stop::OutOfMemory,
     }
 }

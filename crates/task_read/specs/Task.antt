@@ -1,82 +1,85 @@
--- The task that a folder tells.
-use Rattle.std.specs.Prelude.{◌≡◌, ℕ, ◌⊎◌, nat_le, List, [], ◌∷◌, length, codes, Option, Some, None, if◌then◌else◌}
-use Rattle.std.specs.Option.{is_none}
+-- The task that a folder tells, or the first thing that is wrong with it.
+use Rattle.std.specs.Prelude.{◌≡◌, ℕ, ◌⊎◌, Bool, true, nat_le, List, [], ◌∷◌, ◌++◌, length, map, codes, Option, Some, None, if◌then◌else◌}
+use Rattle.std.specs.List.{list_all}
 use Rattle.table_core.specs.Rows.{TableData}
-use Rattle.table_core.specs.Limits.{first_bad_part}
+use Rattle.table_core.specs.Limits.{is_table_within}
 use Rattle.table_core.specs.declared.task.TaskParts.{TaskParts}
 use Rattle.table_core.specs.declared.limits.TheConstants.{LONGEST_FILE, MOST_COLUMNS, MOST_ROWS, MOST_OUTPUT_COLUMNS, MOST_OUTPUT_ROWS}
-use Rattle.task_file.specs.TaskFile.{task_file_of}
-use Rattle.task_file.specs.declared.input.InputFile.{InputFile}
+use Rattle.task_file.specs.TaskFile.{task_file_of, parts_of}
+use Rattle.task_file.specs.declared.table_file.InputFile.{InputFile}
+use Rattle.task_file.specs.declared.table_file.OutputFile.{OutputFile}
 use Rattle.task_file.specs.declared.task.TaskFile.{TaskFile}
 use Rattle.table_read.specs.Table.{table_of}
-use Rattle.task_read.specs.declared.parts.TheConstants.{DEFAULT_SHOWN, DEFAULT_BUDGET}
-use Rattle.task_read.specs.Told.{Told, untold, refused, ready, ◌>>=◌, found, WhenReady}
+use Rattle.table_read.specs.declared.size.Size.{Size}
+use Rattle.task_read.specs.Told.{Told, untold, faulty, ready, ◌>>=◌, answered, WhenReady}
+use Rattle.task_read.specs.Faults.{of_task_file, in_file}
+use Rattle.task_read.specs.declared.fault.TaskFault.{TaskFault}
+use Rattle.task_read.specs.declared.fault.TaskFault.TheVariants.{TooLong}
 
--- the bytes of a file, of which there may not be too many
-abbrev pub bytes_told : Option (List ℕ) → Told (List ℕ)
-bytes_told None = untold
-bytes_told (Some bytes) = if nat_le (length bytes) LONGEST_FILE then ready bytes else refused
+-- what a folder tells of each name: the bytes of the file, if it tells them
+abbrev pub Files : Type 0
+Files = List ℕ → Option (List ℕ)
 
--- the table of this name, with at most so many columns and rows, in a file
-abbrev pub table_told : List ℕ → ℕ → ℕ → Option (List ℕ) → Told TableData
-table_told name widest longest file = bytes_told file >>= (λ bytes. found (table_of name widest longest bytes))
+-- the bytes of the file of this name, of which there may not be too many
+abbrev pub bytes_told : List ℕ → Option (List ℕ) → Told (List ℕ) TaskFault
+bytes_told name None = untold
+bytes_told name (Some bytes) = if nat_le (length bytes) LONGEST_FILE then ready bytes else faulty (TooLong name)
 
--- an input, with at most so many columns and rows as one may have
-abbrev pub input_told : (List ℕ → Option (List ℕ)) → InputFile → Told TableData
-input_told told input = table_told input.name MOST_COLUMNS MOST_ROWS (told input.file)
+-- the task file
+abbrev pub plan_told : List ℕ → Option (List ℕ) → Told TaskFile TaskFault
+plan_told name file = bytes_told name file >>= (λ bytes. answered of_task_file (task_file_of bytes))
 
--- the inputs, in the task's order
-abbrev pub inputs_told : (List ℕ → Option (List ℕ)) → List InputFile → Told (List TableData)
-inputs_told told [] = ready []
-inputs_told told (input ∷ inputs) = input_told told input >>= (λ table. inputs_told told inputs >>= (λ tables. ready (table ∷ tables)))
+-- the most columns and rows of an input, and of the output
+abbrev pub input_size : Size
+input_size = record { columns = MOST_COLUMNS; rows = MOST_ROWS }
 
--- the name of the output
-abbrev pub output_name : List ℕ
-output_name = codes "out"
+abbrev pub output_size : Size
+output_size = record { columns = MOST_OUTPUT_COLUMNS; rows = MOST_OUTPUT_ROWS }
 
--- the output, likewise
-abbrev pub output_told : (List ℕ → Option (List ℕ)) → TaskFile → Told TableData
-output_told told plan = table_told output_name MOST_OUTPUT_COLUMNS MOST_OUTPUT_ROWS (told plan.output)
+-- the table of an input in its file
+abbrev pub input_told : InputFile → Option (List ℕ) → Told TableData TaskFault
+input_told input file =
+    bytes_told input.file file >>= (λ bytes. answered (in_file input.file (codes "input.types")) (table_of input.name input_size input.types bytes))
 
--- the parts of a task, with what stands where the task file doesn't say
-abbrev pub parts_of : TaskFile → List TableData → TableData → TaskParts
-parts_of plan inputs output = record {
-  inputs = inputs;
-  output = output;
-  constants = plan.constants;
-  aggregates = plan.aggregates;
-  ops = plan.ops;
-  leaves = plan.leaves;
-  atoms = plan.atoms;
-  show = DEFAULT_SHOWN;
-  budget = DEFAULT_BUDGET;
-}
+-- the table of the output in its file
+abbrev pub output_told : OutputFile → Option (List ℕ) → Told TableData TaskFault
+output_told output file =
+    bytes_told output.file file >>= (λ bytes. answered (in_file output.file (codes "output.types")) (table_of (codes "out") output_size output.types bytes))
 
--- the tables of a task file, in this order: the inputs, then the output
-abbrev pub parts_told : (List ℕ → Option (List ℕ)) → TaskFile → Told TaskParts
-parts_told told plan = inputs_told told plan.inputs >>= (λ inputs. output_told told plan >>= (λ output. ready (parts_of plan inputs output)))
+-- the earlier tables, and those of these inputs in their order
+abbrev pub inputs_after : Files → List TableData → List InputFile → Told (List TableData) TaskFault
+inputs_after told earlier [] = ready earlier
+inputs_after told earlier (input ∷ inputs) = input_told input (told input.file) >>= (λ table. inputs_after told (earlier ++ table ∷ []) inputs)
 
--- the parts, where none of them is out of the limits of a task
-abbrev pub limited : TaskParts → Option TaskParts
-limited parts = if is_none (first_bad_part parts) then Some parts else None
+-- the parts of the task of a task file: its inputs, and then its output
+abbrev pub parts_told : Files → TaskFile → Told TaskParts TaskFault
+parts_told told plan =
+    inputs_after told [] plan.inputs >>= (λ inputs. output_told plan.output (told plan.output.file) >>= (λ output. ready (parts_of plan inputs output)))
 
--- the task file, read
-abbrev pub plan_told : Option (List ℕ) → Told TaskFile
-plan_told file = bytes_told file >>= (λ bytes. found (task_file_of bytes))
+-- the task of the task file of this name
+abbrev pub task_told : Files → List ℕ → Told TaskParts TaskFault
+task_told told name = plan_told name (told name) >>= parts_told told
 
--- the task of a task file
-abbrev pub task_told : (List ℕ → Option (List ℕ)) → List ℕ → Told TaskParts
-task_told told file = plan_told (told file) >>= (λ plan. parts_told told plan >>= (λ parts. found (limited parts)))
-
--- a file is that of one of these inputs, and the inputs before it are as they have to be
-abbrev pub IsReadAsInput : (List ℕ → Option (List ℕ)) → List InputFile → List ℕ → Type 0
+-- a file is that of one of these inputs, and the inputs before it are without fault
+abbrev pub IsReadAsInput : Files → List InputFile → List ℕ → Type 0
 IsReadAsInput told [] file = ⊥
-IsReadAsInput told (input ∷ inputs) file = (file ≡ input.file) ⊎ WhenReady (input_told told input) (λ _. IsReadAsInput told inputs file)
+IsReadAsInput told (input ∷ inputs) file = (file ≡ input.file) ⊎ WhenReady (input_told input (told input.file)) (λ _. IsReadAsInput told inputs file)
 
--- a file is that of a table of the task, and the tables before it are as they have to be
-abbrev pub IsReadAsTable : (List ℕ → Option (List ℕ)) → TaskFile → List ℕ → Type 0
-IsReadAsTable told plan file = IsReadAsInput told plan.inputs file ⊎ WhenReady (inputs_told told plan.inputs) (λ _. file ≡ plan.output)
+-- a file is that of a table of the task, and the tables before it are without fault
+abbrev pub IsReadAsTable : Files → TaskFile → List ℕ → Type 0
+IsReadAsTable told plan file = IsReadAsInput told plan.inputs file ⊎ WhenReady (inputs_after told [] plan.inputs) (λ _. file ≡ plan.output.file)
 
--- a file is the task file or one of its tables, and all that is read before it is as it has to be
-abbrev pub IsRead : (List ℕ → Option (List ℕ)) → List ℕ → List ℕ → Type 0
-IsRead told task file = (file ≡ task) ⊎ WhenReady (plan_told (told task)) (λ plan. IsReadAsTable told plan file)
+-- a file is the task file or one of its tables, and all that is read before it is without fault
+abbrev pub IsRead : Files → List ℕ → List ℕ → Type 0
+IsRead told name file = (file ≡ name) ⊎ WhenReady (plan_told name (told name)) (λ plan. IsReadAsTable told plan file)
+
+-- whether all these tables are within the limits of inputs
+abbrev pub are_within : List TableData → Bool
+are_within tables = list_all (is_table_within MOST_COLUMNS MOST_ROWS) tables
+
+-- the names of some tables, and of some inputs
+abbrev pub table_names : List TableData → List (List ℕ)
+table_names tables = map (λ (table : TableData). table.name) tables
+
+abbrev pub input_names : List InputFile → List (List ℕ)
+input_names inputs = map (λ (input : InputFile). input.name) inputs

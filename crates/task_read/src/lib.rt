@@ -1,11 +1,11 @@
-//! The task: a task file and the tables that it names, read from a folder.
+//! The task: a task file and the tables that it names, read from a folder in a stated order.
 #![tactic(auto)]
 
 mod fault;
 mod file;
-mod parts;
+mod plan;
 mod tables;
 mod task;
 
-pub use fault::TaskEnd;
+pub use fault::{TaskEnd, TaskFault};
 pub use task::read_task;

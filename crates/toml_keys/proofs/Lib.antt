@@ -1,2 +1,3 @@
+pub mod Least
 pub mod Lists
 pub mod Utf8

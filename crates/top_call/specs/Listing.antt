@@ -1,46 +1,59 @@
 -- What a run does that has its task.
-use Rattle.std.specs.Prelude.{◌≡◌, ℕ, ◌<◌, ◌==◌, ◌⊎◌, Bool, true, false, List, [], length, Option, Some, None, if◌then◌else◌}
+use Rattle.std.specs.Prelude.{◌≡◌, ℕ, ◌<◌, ◌==◌, Bool, true, false, List, [], length, Option, Some, None, if◌then◌else◌}
 use Rattle.io_edge.specs.Rose.{Rose}
 use Rattle.io_edge.specs.Gained.{Gained, GainedFront}
 use Rattle.table_core.specs.declared.task.TaskParts.{TaskParts}
 use Rattle.query_core.specs.Answers.{answers}
 use Rattle.sql_print.specs.Text.{text}
-use Rattle.task_read.specs.Told.{WhenReady, MayRefuse}
-use Rattle.task_read.specs.Task.{IsRead}
-use Rattle.top_call.specs.Form.{built_task}
+use Rattle.task_read.specs.Told.{WhenReady, WhenFaulty}
+use Rattle.task_read.specs.Task.{Files, IsRead, task_told}
+use Rattle.top_call.specs.Form.{is_built}
 use Rattle.top_call.specs.declared.end.End.{End}
-use Rattle.top_call.specs.declared.end.End.TheVariants.{Listed, Empty, Usage, ReadFault, WriteFault, OutOfMemory, NotYet}
+use Rattle.top_call.specs.declared.end.End.TheVariants.{Listed, Empty, Usage, BadTask, ReadFault, WriteFault, OutOfMemory, NotYet}
 
 -- the end of a run that wrote the text of so many answers
 abbrev pub end_of : ℕ → End
 end_of count = if count == 0 then Empty else Listed count
 
--- what listing a task does to the sink, beside its end
+-- what listing a task of the form that is built does to the sink, beside its end
 abbrev pub Prints : TaskParts → Option (List ℕ) → Option (List ℕ) → ℕ → ℕ → End → Type 0
 Prints task old new before now (Listed count) = ((count ≡ length (answers task)) × (0 < count)) × Gained old new (text task)
 Prints task old new before now Empty = (answers task ≡ []) × Gained old new (text task)
 Prints task old new before now Usage = ⊥
+Prints task old new before now (BadTask fault) = ⊥
 Prints task old new before now (ReadFault file) = ⊥
 Prints task old new before now WriteFault = GainedFront old new (text task) × Rose before now
 Prints task old new before now OutOfMemory = new ≡ old
 Prints task old new before now NotYet = ⊥
 
+-- a refusal of a task that isn't of that form, beside its end
+abbrev pub Refuses : Option (List ℕ) → Option (List ℕ) → End → Type 0
+Refuses old new (Listed count) = ⊥
+Refuses old new Empty = ⊥
+Refuses old new Usage = ⊥
+Refuses old new (BadTask fault) = ⊥
+Refuses old new (ReadFault file) = ⊥
+Refuses old new WriteFault = ⊥
+Refuses old new OutOfMemory = new ≡ old
+Refuses old new NotYet = new ≡ old
+
 -- what is done with a task, beside its end: one of the form that is built is listed, and any other is refused
-abbrev pub ListsOrRefuses : Bool → TaskParts → Option (List ℕ) → Option (List ℕ) → ℕ → ℕ → End → Type 0
-ListsOrRefuses true task old new before now end = Prints task old new before now end
-ListsOrRefuses false task old new before now end = ((end ≡ NotYet) ⊎ (end ≡ OutOfMemory)) × (new ≡ old)
+abbrev pub Answers : Bool → TaskParts → Option (List ℕ) → Option (List ℕ) → ℕ → ℕ → End → Type 0
+Answers true task old new before now end = Prints task old new before now end
+Answers false task old new before now end = Refuses old new end
 
 -- what a run of a task file does to folder and sink, beside its end
-abbrev pub Runs : (List ℕ → Option (List ℕ)) → (List ℕ → ℕ) → (List ℕ → ℕ) → List ℕ → Option (List ℕ) → Option (List ℕ) → ℕ → ℕ → End → Type 0
-Runs told unread unread_now file old new before now (Listed count) = WhenReady (built_task told file) (λ task. Prints task old new before now (Listed count))
-Runs told unread unread_now file old new before now Empty = WhenReady (built_task told file) (λ task. Prints task old new before now Empty)
+abbrev pub Runs : Files → (List ℕ → ℕ) → (List ℕ → ℕ) → List ℕ → Option (List ℕ) → Option (List ℕ) → ℕ → ℕ → End → Type 0
+Runs told unread unread_now file old new before now (Listed count) = WhenReady (task_told told file) (λ task. Answers (is_built task) task old new before now (Listed count))
+Runs told unread unread_now file old new before now Empty = WhenReady (task_told told file) (λ task. Answers (is_built task) task old new before now Empty)
 Runs told unread unread_now file old new before now Usage = ⊥
+Runs told unread unread_now file old new before now (BadTask fault) = WhenFaulty (task_told told file) (λ first. fault ≡ first) × (new ≡ old)
 Runs told unread unread_now file old new before now (ReadFault name) = (IsRead told file name × Rose (unread name) (unread_now name)) × (new ≡ old)
-Runs told unread unread_now file old new before now WriteFault = WhenReady (built_task told file) (λ task. Prints task old new before now WriteFault) × Rose before now
+Runs told unread unread_now file old new before now WriteFault = WhenReady (task_told told file) (λ task. Answers (is_built task) task old new before now WriteFault) × Rose before now
 Runs told unread unread_now file old new before now OutOfMemory = new ≡ old
-Runs told unread unread_now file old new before now NotYet = MayRefuse (built_task told file) × (new ≡ old)
+Runs told unread unread_now file old new before now NotYet = WhenReady (task_told told file) (λ task. is_built task ≡ false) × (new ≡ old)
 
 -- what a run of words does, beside its end
-abbrev pub RunsWords : (List ℕ → Option (List ℕ)) → (List ℕ → ℕ) → (List ℕ → ℕ) → Option (List ℕ) → Option (List ℕ) → Option (List ℕ) → ℕ → ℕ → End → Type 0
+abbrev pub RunsWords : Files → (List ℕ → ℕ) → (List ℕ → ℕ) → Option (List ℕ) → Option (List ℕ) → Option (List ℕ) → ℕ → ℕ → End → Type 0
 RunsWords told unread unread_now None old new before now end = (end ≡ Usage) × (new ≡ old)
 RunsWords told unread unread_now (Some file) old new before now end = Runs told unread unread_now file old new before now end

@@ -1,5 +1,6 @@
 ghost use Rattle.std.specs.Prelude.{◌≡◌};
 
+use task_read::TaskFault;
 use value_core::Bytes;
 
 /// How a run ended.
@@ -11,12 +12,14 @@ pub enum End {
     Empty,
     /// The words aren't understood.
     Usage,
+    /// This is the first thing that is wrong with the task.
+    BadTask(TaskFault),
     /// This file couldn't be read.
     ReadFault { file: Bytes },
     /// The text couldn't be written whole.
     WriteFault,
     OutOfMemory,
-    /// The task isn't of the form that is built so far.
+    /// The task has more skeletons than are gone through so far.
     NotYet,
 }
 
@@ -31,6 +34,7 @@ impl End {
             End::Listed { .. } => 0,
             End::Empty => 1,
             End::Usage => 2,
+            End::BadTask(_) => 3,
             End::ReadFault { .. } => 6,
             End::WriteFault => 7,
             End::OutOfMemory => 8,

@@ -3,9 +3,11 @@
 
 mod command;
 mod end;
+mod fault_line;
 mod form;
 mod line;
 mod listing;
+mod piece;
 mod run;
 
 pub use end::End;

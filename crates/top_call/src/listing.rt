@@ -1,6 +1,6 @@
 ghost use Rattle.std.specs.Prelude.{◌≡◌, true};
 ghost use Rattle.top_call.specs.Form.{is_built};
-ghost use Rattle.top_call.specs.Listing.{Prints, ListsOrRefuses, end_of};
+ghost use Rattle.top_call.specs.Listing.{Answers, Prints, end_of};
 
 use crate::end::End;
 use crate::form::is_built;
@@ -43,7 +43,7 @@ fn list<K: Sink>(alloc: Global, task: &Task, out: &mut K) -> End
 
 /// Lists the answers of a task and writes its text, where it is of the form that is built.
 pub fn answer<K: Sink>(alloc: Global, task: &Task, out: &mut K) -> End
-    ensures { ListsOrRefuses (is_built task.now) task.now (K.written out.old) (K.written out.new) (K.faults out.old) (K.faults out.new) result }
+    ensures { Answers (is_built task.now) task.now (K.written out.old) (K.written out.new) (K.faults out.old) (K.faults out.new) result }
 {
     match is_built(alloc, task) {
         Ok(true) => list(alloc, task, out),

@@ -1,14 +1,16 @@
-ghost use Rattle.std.specs.Prelude.{◌≡◌, ◌↔◌, ◌⊎◌, ℕ, ◌<◌, List, [], length, Option, Some, None, IsSome};
+ghost use Rattle.std.specs.Prelude.{◌≡◌, ◌↔◌, ◌⊎◌, ℕ, ◌<◌, List, [], length, Option, None, true, false};
 ghost use Rattle.io_edge.specs.Rose.{Rose};
 ghost use Rattle.io_edge.specs.Gained.{Gained, GainedFront};
 ghost use Rattle.query_core.specs.Answers.{answers};
 ghost use Rattle.sql_print.specs.Text.{text};
-ghost use Rattle.task_read.specs.Told.{WhenReady, MayRefuse};
+ghost use Rattle.task_read.specs.Told.{WhenReady, WhenFaulty};
+ghost use Rattle.task_read.specs.declared.fault.TaskFault.{TaskFault as Fault};
 ghost use Rattle.top_call.specs.Command.{command};
+ghost use Rattle.top_call.specs.Form.{is_built};
 ghost use Rattle.top_call.specs.Line.{line};
 ghost use Rattle.top_call.specs.Listing.{Runs, RunsWords};
-ghost use Rattle.top_call.specs.Promise.{asked, IsReadIn, NoneUnread, UnlessReadFault, IsUnwritten, IfReady, IsRefused, AnswersTask};
-ghost use Rattle.top_call.specs.declared.end.End.TheVariants.{Listed, Empty, Usage, ReadFault, WriteFault, OutOfMemory, NotYet};
+ghost use Rattle.top_call.specs.Promise.{asked, IsReadIn, NoneUnread, UnlessReadFault, IsUnwritten, IfReady, IsRefused, RefusedAs, AnswersTask};
+ghost use Rattle.top_call.specs.declared.end.End.TheVariants.{Listed, Empty, Usage, BadTask, ReadFault, WriteFault, NotYet};
 
 use crate::command::command;
 use crate::end::End;
@@ -23,12 +25,12 @@ use value_core::Bytes;
 // The end of a run whose task wasn't read.
 fn end_of(unread: TaskEnd) -> End
     ensures read { (file : List ℕ) → unread ≡ TaskEnd.ReadFault file → result ≡ End.ReadFault file }
-    ensures form { unread ≡ TaskEnd.WrongForm → result ≡ End.NotYet }
+    ensures bad { (fault : Fault) → unread ≡ TaskEnd.Bad fault → result ≡ End.BadTask fault }
     ensures memory { (result ≡ End.OutOfMemory) ↔ (unread ≡ TaskEnd.OutOfMemory) }
 {
     match unread {
         TaskEnd::ReadFault { file } => End::ReadFault { file },
-        TaskEnd::WrongForm => End::NotYet,
+        TaskEnd::Bad(fault) => End::BadTask(fault),
         TaskEnd::OutOfMemory => End::OutOfMemory,
     }
 }
@@ -38,7 +40,7 @@ fn run_file<F: Folder, K: Sink>(alloc: Global, file: &Bytes, folder: &mut F, out
     ensures runs { Runs (F.told folder.old) (F.faults folder.old) (F.faults folder.new) file.now (K.written out.old) (K.written out.new) (K.faults out.old) (K.faults out.new) result }
     ensures still { UnlessReadFault result ((n : List ℕ) → F.faults folder.new n ≡ F.faults folder.old n) }
 {
-    match read_task(alloc, folder, file) {
+    match read_task(alloc, folder, file.as_slice()) {
         Ok(task) => answer(alloc, &task, out),
         Err(unread) => end_of(unread),
     }
@@ -73,17 +75,18 @@ pub fn scythe<R: Threads + Sync, F: Folder, K: Sink, E: Sink, G: Gate + Sync>(
 
     // When each other end comes.
     ensures usage { (result ≡ Usage) ↔ (command words.now ≡ None) }
-    ensures not_yet { result ≡ NotYet → MayRefuse (asked (F.told folder.old) words.now) }
+    ensures bad_task { (fault : Fault) → result ≡ BadTask fault → WhenFaulty (asked (F.told folder.old) words.now) (λ first. fault ≡ first) }
+    ensures not_yet { result ≡ NotYet → WhenReady (asked (F.told folder.old) words.now) (λ task. is_built task ≡ false) }
     ensures read { (file : List ℕ) → result ≡ ReadFault file → IsReadIn (F.told folder.old) words.now file × Rose (F.faults folder.old file) (F.faults folder.new file) }
     ensures write { result ≡ WriteFault → Rose (K.faults out.old) (K.faults out.new) }
-    ensures write_last { result ≡ WriteFault → ¬ (IsRefused (asked (F.told folder.old) words.now)) }
+    ensures write_last { result ≡ WriteFault → WhenReady (asked (F.told folder.old) words.now) (λ task. is_built task ≡ true) }
 
     // At every end but `ReadFault`, also where a write failed, no read had failed.
     ensures still { UnlessReadFault result ((file : List ℕ) → F.faults folder.new file ≡ F.faults folder.old file) }
 
-    // Where no read failed, a task is answered unless a write failed or memory ran out, and what isn't a task is refused.
-    ensures complete { NoneUnread (F.told folder.old) (F.faults folder.old) (F.faults folder.new) words.now → ¬ Rose (K.faults out.old) (K.faults out.new) → IfReady (asked (F.told folder.old) words.now) (λ task. AnswersTask task result) }
-    ensures refused { NoneUnread (F.told folder.old) (F.faults folder.old) (F.faults folder.new) words.now → IsSome (command words.now) → IsRefused (asked (F.told folder.old) words.now) → (result ≡ NotYet) ⊎ (result ≡ OutOfMemory) }
+    // Where no read failed, a task is answered unless a write failed or memory ran out, and what is wrong is told.
+    ensures complete { NoneUnread (F.told folder.old) (F.faults folder.old) (F.faults folder.new) words.now → ¬ Rose (K.faults out.old) (K.faults out.new) → IfReady (asked (F.told folder.old) words.now) (λ task. is_built task ≡ true → AnswersTask task result) }
+    ensures refused { NoneUnread (F.told folder.old) (F.faults folder.old) (F.faults folder.new) words.now → RefusedAs (asked (F.told folder.old) words.now) result }
 
     // What was written.
     ensures out_front { IfReady (asked (F.told folder.old) words.now) (λ task. GainedFront (K.written out.old) (K.written out.new) (text task)) }

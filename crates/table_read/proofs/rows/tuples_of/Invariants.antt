@@ -1,7 +1,8 @@
-use Rattle.std.proofs.Common.{◌≡◌, ◌++◌, drop}
-use Rattle.std.specs.Prelude.{option_map}
-use Rattle.table_read.specs.Table.{tuples_of}
+use Rattle.std.proofs.Common.{◌≡◌, drop}
+use Rattle.first_fault.specs.Reading.{each}
+use Rattle.first_fault.proofs.Steps.{after}
+use Rattle.table_read.specs.Table.{tuple_at}
 use Rattle.table_read.proofs.rows.tuples_of.Given as goal
 
-abbrev pub invariant-loop-row : goal.invariant-loop-row
-invariant-loop-row l = option_map (λ rest. l.tuples.items ++ rest) (tuples_of l.columns (drop l.row-index l.rows)) ≡ tuples_of l.columns l.rows
+abbrev pub invariant-loop-at : goal.invariant-loop-at
+invariant-loop-at l = after l.tuples.items (each (tuple_at l.columns) l.at (drop l.at l.rows)) ≡ each (tuple_at l.columns) 0 l.rows

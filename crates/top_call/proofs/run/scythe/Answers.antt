@@ -1,16 +1,12 @@
 use Rattle.top_call.specs.Command.{command}
 use Rattle.top_call.specs.Line.{line}
-use Rattle.top_call.proofs.RunLaws.{front_words, refused_words}
+use Rattle.top_call.proofs.RunLaws.{front_words}
 use Rattle.top_call.proofs.WriteLaws.{either_front}
 use Rattle.top_call.proofs.run.scythe.Goals as goal
 
 pub returns-clause-out_front : goal.returns-clause-out_front
 returns-clause-out_front g c =
     front_words (g.F.Folder.told c.args.folder.now) (g.F.Folder.faults c.args.folder.now) (g.F.Folder.faults c.run-end.new.folder) (command c.args.words.now) (g.K.Sink.written c.args.out.now) (g.K.Sink.written c.run-end.new.out) (g.K.Sink.faults c.args.out.now) (g.K.Sink.faults c.run-end.new.out) c.run-end.result c.run-end.ensures.runs
-
-pub returns-clause-out_refused : goal.returns-clause-out_refused
-returns-clause-out_refused g c =
-    refused_words (g.F.Folder.told c.args.folder.now) (g.F.Folder.faults c.args.folder.now) (g.F.Folder.faults c.run-end.new.folder) (command c.args.words.now) (g.K.Sink.written c.args.out.now) (g.K.Sink.written c.run-end.new.out) (g.K.Sink.faults c.args.out.now) (g.K.Sink.faults c.run-end.new.out) c.run-end.result c.run-end.ensures.runs
 
 pub returns-clause-err_front : goal.returns-clause-err_front
 returns-clause-err_front g c =

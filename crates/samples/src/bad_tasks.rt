@@ -1,0 +1,163 @@
+//! Tasks that something is wrong with, and tasks at their limits: what a run tells.
+
+use crate::fault::Failed;
+use crate::make::fails;
+use crate::show::text;
+use io_edge::{MemFolder, MemSink, OpenGate};
+use std::alloc::Global;
+use std::thread::Threads;
+use top_call::scythe;
+use value_core::Bytes;
+
+const TABLES: &str = "[[input]]\nname = \"t\"\nfile = \"t.csv\"\n[output]\nfile = \"out.csv\"\n";
+
+const INPUT: &str = "[[input]]\nname = \"t\"\nfile = \"t.csv\"\n";
+
+const OUTPUT: &str = "[output]\nfile = \"out.csv\"\n";
+
+const INT_INPUT: &str = "[[input]]\nname = \"t\"\nfile = \"t.csv\"\ntypes = [\"int\"]\n";
+
+// An input whose column is declared as texts, and an output whose column is read off.
+const TEXT_TABLES: &str =
+    "[[input]]\nname = \"t\"\nfile = \"t.csv\"\ntypes = [\"text\"]\n[output]\nfile = \"out.csv\"\n";
+
+// A task of one answer.
+const ONE_ANSWER: &str =
+    "ops = 0\n[[input]]\nname = \"t\"\nfile = \"t.csv\"\n[output]\nfile = \"out.csv\"\n";
+
+const T: &[u8] = b"id,v\na,1\na,2\n";
+
+const O: &[u8] = b"id\na\n";
+
+const LONG_CELL: &[u8] =
+    b"id,v\na,b\na,0123456789abcdef0123456789abcdef0123456789abcdef0123456789abcdefg\n";
+
+const ROWS_17: &[u8] = b"v\n1\n1\n1\n1\n1\n1\n1\n1\n1\n1\n1\n1\n1\n1\n1\n1\n1\n";
+
+const ROWS_64: &[u8] =
+    b"v\n1\n1\n1\n1\n1\n1\n1\n1\n1\n1\n1\n1\n1\n1\n1\n1\n1\n1\n1\n1\n1\n1\n1\n1\n1\n1\n1\n1\n1\n1\n1\n1\n1\n1\n1\n1\n1\n1\n1\n1\n1\n1\n1\n1\n1\n1\n1\n1\n1\n1\n1\n1\n1\n1\n1\n1\n1\n1\n1\n1\n1\n1\n1\n1\n";
+
+const ROWS_65: &[u8] =
+    b"v\n1\n1\n1\n1\n1\n1\n1\n1\n1\n1\n1\n1\n1\n1\n1\n1\n1\n1\n1\n1\n1\n1\n1\n1\n1\n1\n1\n1\n1\n1\n1\n1\n1\n1\n1\n1\n1\n1\n1\n1\n1\n1\n1\n1\n1\n1\n1\n1\n1\n1\n1\n1\n1\n1\n1\n1\n1\n1\n1\n1\n1\n1\n1\n1\n1\n";
+
+// Names of 255 and of 256 bytes.
+const LONGEST_FILE: &str =
+    "[[input]]\nname = \"s\"\nfile = \"0123456789abcdef0123456789abcdef0123456789abcdef0123456789abcdef0123456789abcdef0123456789abcdef0123456789abcdef0123456789abcdef0123456789abcdef0123456789abcdef0123456789abcdef0123456789abcdef0123456789abcdef0123456789abcdef0123456789abcdef0123456789abcde\"\n";
+
+const LONG_FILE: &str =
+    "[[input]]\nname = \"s\"\nfile = \"0123456789abcdef0123456789abcdef0123456789abcdef0123456789abcdef0123456789abcdef0123456789abcdef0123456789abcdef0123456789abcdef0123456789abcdef0123456789abcdef0123456789abcdef0123456789abcdef0123456789abcdef0123456789abcdef0123456789abcdef0123456789abcdef\"\n";
+
+// A task file in two parts, and the files of its input and its output.
+type Case = (&'static str, &'static str, &'static [u8], &'static [u8]);
+
+const CASES: &[Case] = &[
+    ("ops = \"cut\n", TABLES, T, O),
+    ("zip = 1\nopps = 1\nops = 9\n", TABLES, T, O),
+    ("ops = 5\nleaves = 0\n", TABLES, T, O),
+    ("leaves = 4\natoms = 0\n", TABLES, T, O),
+    ("atoms = 4\nshow = 0\n", TABLES, T, O),
+    ("show = 1001\nbudget = 0\n", TABLES, T, O),
+    ("budget = 400001\n", TABLES, b"", O),
+    (
+        "constants = [1, 1]\naggregates = [\"sum\", \"sum\"]\n",
+        TABLES,
+        T,
+        O,
+    ),
+    ("aggregates = [\"mean\"]\n", TABLES, T, O),
+    ("ops = 5\n", "", T, O),
+    ("constants = [\"\"]\n", INPUT, T, O),
+    ("input = [{ name = \"t\" }, 1]\n", OUTPUT, T, O),
+    ("[[input]]\nfile = 1\nmore = 1\n", TABLES, T, O),
+    ("[[input]]\nfile = 1\n", TABLES, T, O),
+    ("[[input]]\nname = \"t\"\nfile = \"u.csv\"\n", TABLES, T, O),
+    ("[[input]]\nname = \"s\"\nfile = \"\"\n", TABLES, T, O),
+    (LONG_FILE, TABLES, T, O),
+    (LONGEST_FILE, OUTPUT, T, O),
+    (
+        "[[input]]\nname = \"s\"\nfile = \"t.csv\"\ntypes = [\"date\"]\n",
+        TABLES,
+        T,
+        O,
+    ),
+    (INPUT, "[output]\nfiles = \"out.csv\"\n", T, O),
+    (INPUT, "[output]\nfile = 1\ntypes = []\n", T, O),
+    (
+        INPUT,
+        "[output]\nfile = \"out.csv\"\ntypes = [\"int\", \"int\"]\n",
+        T,
+        O,
+    ),
+    (INT_INPUT, OUTPUT, T, b""),
+    ("", TABLES, b"", b""),
+    ("", TABLES, b"\xff", O),
+    ("", TABLES, T, b"id\n\xff\n"),
+    ("", TABLES, b"a,b,c,d,e,f,\n", O),
+    ("", TABLES, T, b"a,b,c,d,\n"),
+    ("", TABLES, b"a,\n1\n", O),
+    ("", TABLES, b"a,b,a\n", O),
+    ("", TABLES, ROWS_17, O),
+    ("", TABLES, T, ROWS_65),
+    ("ops = 0\n", TABLES, T, ROWS_64),
+    ("", TABLES, b"a,b\n1,2\n3\n4,5,6\n", O),
+    (INT_INPUT, OUTPUT, b"n\n1\n007\nx\n", O),
+    ("", TABLES, LONG_CELL, O),
+    ("ops = 0\n", TABLES, b"n\n007\n", b"n\n007\n"),
+    ("ops = 0\n", TEXT_TABLES, b"n\n1\n", b"n\n1\n"),
+    (
+        "constants = [1]\nops = 1\nleaves = 1\natoms = 1\nshow = 2\nbudget = 1\n",
+        TABLES,
+        T,
+        O,
+    ),
+];
+
+// The bytes of two texts, one after the other.
+fn joined(alloc: Global, front: &str, back: &str) -> Result<Bytes, Failed> {
+    let mut bytes = Vec::from_slice(alloc, front.as_bytes())?;
+    bytes.extend_from_slice(back.as_bytes())?;
+    Ok(Bytes::from_vec(bytes))
+}
+
+// A folder of a task file, its input and its output.
+fn folder(alloc: Global, task: Bytes, table: &[u8], output: &[u8]) -> Result<MemFolder, Failed> {
+    let mut files = Vec::new(alloc);
+    files.push((Bytes::of(alloc, b"t.toml")?, task))?;
+    files.push((Bytes::of(alloc, b"t.csv")?, Bytes::of(alloc, table)?))?;
+    files.push((Bytes::of(alloc, b"out.csv")?, Bytes::of(alloc, output)?))?;
+    Ok(MemFolder::new(alloc, files, fails(alloc, 0)?)?)
+}
+
+// The status of a run of the task file in this folder, and what it wrote.
+fn shown<R: Print + Threads + Sync>(
+    rt: &R,
+    alloc: Global,
+    folder: &mut MemFolder,
+) -> Result<(), Failed> {
+    let words = [Bytes::of(alloc, b"run")?, Bytes::of(alloc, b"t.toml")?];
+    let mut out = MemSink::new(alloc, 1000, 1000, fails(alloc, 0)?)?;
+    let mut err = MemSink::new(alloc, 1000, 1000, fails(alloc, 0)?)?;
+    let status = scythe(rt, alloc, &words, folder, &mut out, &mut err, &OpenGate).status();
+    print!(rt; "{status}: {}{}", text(out.bytes()), text(err.bytes()))?;
+    Ok(())
+}
+
+// A task file of so many bytes: a comment, and then a task of one answer.
+fn of_length(alloc: Global, length: usize) -> Result<Bytes, Failed> {
+    let mut bytes = Vec::from_elem(alloc, b'#', length.saturating_sub(ONE_ANSWER.len() + 1))?;
+    bytes.push(b'\n')?;
+    bytes.extend_from_slice(ONE_ANSWER.as_bytes())?;
+    Ok(Bytes::from_vec(bytes))
+}
+
+pub fn samples<R: Print + Threads + Sync>(rt: &R, alloc: Global) -> Result<(), Failed> {
+    for (front, back, table, output) in CASES {
+        let task = joined(alloc, front, back)?;
+        shown(rt, alloc, &mut folder(alloc, task, table, output)?)?;
+    }
+    for length in [65_536, 65_537] {
+        let task = of_length(alloc, length)?;
+        shown(rt, alloc, &mut folder(alloc, task, b"v\n1\n", b"v\n1\n")?)?;
+    }
+    Ok(())
+}

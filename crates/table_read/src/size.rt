@@ -1,0 +1,6 @@
+/// The most columns and rows of a table.
+#[derive(Clone, Copy, Debug, PartialEq, Eq)]
+pub struct Size {
+    pub columns: u32,
+    pub rows: u32,
+}

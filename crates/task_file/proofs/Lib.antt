@@ -1,0 +1,5 @@
+pub mod Distinct
+pub mod Inputs
+pub mod Limits
+pub mod Lists
+pub mod Steps
