@@ -165,7 +165,7 @@ once_atoms types constants =
     ])
 
 -- a predicate's kind
-form : Pred → ℕ
+abbrev pub form : Pred → ℕ
 form Always = 0
 form (One a) = 1
 form (And2 a b) = 2
@@ -174,7 +174,7 @@ form (And3 a b c) = 4
 form (Or3 a b c) = 5
 
 -- what a list mapped to one kind has is of that kind
-in_form : {X : Type 0} (f : X → Pred) (n : ℕ) → ((x : X) → form (f x) ≡ n) → (p : Pred) (xs : List X) → In p (map f xs) → form p ≡ n
+pub in_form : {X : Type 0} (f : X → Pred) (n : ℕ) → ((x : X) → form (f x) ≡ n) → (p : Pred) (xs : List X) → In p (map f xs) → form p ≡ n
 in_form f n of p xs here = let h = in_map f p xs here in ap form h.2 ∙ of h.0
 
 -- a list under two functions of different kinds
@@ -191,32 +191,28 @@ in_two f g m n of_f of_g less p xs here =
       | inr b ↦ let e = in_form g n of_g p xs b in (omega arith, omega arith)
     ]
 
-and2_same : (p q : Atom × Atom) → And2 p.0 p.1 ≡ And2 q.0 q.1 → p ≡ q
+pub and2_same : (p q : Atom × Atom) → And2 p.0 p.1 ≡ And2 q.0 q.1 → p ≡ q
 and2_same (a, b) (c, d) e = let x : a ≡ c = cc in let y : b ≡ d = cc in cc
 
-or2_same : (p q : Atom × Atom) → Or2 p.0 p.1 ≡ Or2 q.0 q.1 → p ≡ q
+pub or2_same : (p q : Atom × Atom) → Or2 p.0 p.1 ≡ Or2 q.0 q.1 → p ≡ q
 or2_same (a, b) (c, d) e = let x : a ≡ c = cc in let y : b ≡ d = cc in cc
 
-and3_same : (p q : Atom × Atom × Atom) → And3 p.0 p.1 p.2 ≡ And3 q.0 q.1 q.2 → p ≡ q
+pub and3_same : (p q : Atom × Atom × Atom) → And3 p.0 p.1 p.2 ≡ And3 q.0 q.1 q.2 → p ≡ q
 and3_same (a, b, c) (d, e, f) s = let x : a ≡ d = cc in let y : b ≡ e = cc in let z : c ≡ f = cc in cc
 
-or3_same : (p q : Atom × Atom × Atom) → Or3 p.0 p.1 p.2 ≡ Or3 q.0 q.1 q.2 → p ≡ q
+pub or3_same : (p q : Atom × Atom × Atom) → Or3 p.0 p.1 p.2 ≡ Or3 q.0 q.1 q.2 → p ≡ q
 or3_same (a, b, c) (d, e, f) s = let x : a ≡ d = cc in let y : b ≡ e = cc in let z : c ≡ f = cc in cc
 
-two_forms : (atoms : List Atom) (p : Pred) → In p (two_atoms atoms) → (2 ≤ form p) × (form p ≤ 3)
-unfolding form
+pub two_forms : (atoms : List Atom) (p : Pred) → In p (two_atoms atoms) → (2 ≤ form p) × (form p ≤ 3)
 two_forms atoms p here = in_two (λ q. And2 q.0 q.1) (λ q. Or2 q.0 q.1) 2 3 (λ q. refl) (λ q. refl) (omega arith) p (pairs atoms) here
 
 once_two_atoms : (atoms : List Atom) → Once atoms → Once (two_atoms atoms)
-unfolding form
 once_two_atoms atoms once = once_two (λ q. And2 q.0 q.1) (λ q. Or2 q.0 q.1) 2 3 (λ q. refl) (λ q. refl) (omega arith) and2_same or2_same (pairs atoms) (once_pairs atoms once)
 
-three_forms : (atoms : List Atom) (p : Pred) → In p (three_atoms atoms) → (4 ≤ form p) × (form p ≤ 5)
-unfolding form
+pub three_forms : (atoms : List Atom) (p : Pred) → In p (three_atoms atoms) → (4 ≤ form p) × (form p ≤ 5)
 three_forms atoms p here = in_two (λ q. And3 q.0 q.1 q.2) (λ q. Or3 q.0 q.1 q.2) 4 5 (λ q. refl) (λ q. refl) (omega arith) p (triples atoms) here
 
 once_three_atoms : (atoms : List Atom) → Once atoms → Once (three_atoms atoms)
-unfolding form
 once_three_atoms atoms once = once_two (λ q. And3 q.0 q.1 q.2) (λ q. Or3 q.0 q.1 q.2) 4 5 (λ q. refl) (λ q. refl) (omega arith) and3_same or3_same (triples atoms) (once_triples atoms once)
 
 -- a list that may be left out
@@ -228,7 +224,7 @@ in_if : {X : Type 0} (b : Bool) (x : X) (xs : List X) → In x (if b then xs els
 in_if true x xs here = here
 in_if false x xs here = absurd here
 
-more_forms : (atoms : List Atom) (bound : ℕ) (p : Pred) → In p (more_atoms atoms bound) → 2 ≤ form p
+pub more_forms : (atoms : List Atom) (bound : ℕ) (p : Pred) → In p (more_atoms atoms bound) → 2 ≤ form p
 more_forms atoms bound p here =
     elim (in_append p (if nat_le 2 bound then two_atoms atoms else []) (if nat_le 3 bound then three_atoms atoms else []) here) [
       | inl a ↦ (two_forms atoms p (in_if (nat_le 2 bound) p (two_atoms atoms) a)).0
@@ -245,12 +241,10 @@ once_more_atoms atoms bound once =
     omega (arith, two.1, three.0))
 
 not_always : (p : Pred) → p ≡ Always → 1 ≤ form p → ⊥
-unfolding form
 not_always p e more = let n : form p ≡ 0 = ap form e in omega arith
 
 -- over distinct atoms each predicate stands once in the list of predicates
 pub once_preds : (atoms : List Atom) (bound : ℕ) → Once atoms → Once (pred_list atoms bound)
-unfolding form
 once_preds atoms bound once =
     let ones = map One atoms in
     let more = more_atoms atoms bound in

@@ -2,4 +2,5 @@ pub mod Atoms
 pub mod Counts
 pub mod Equal
 pub mod Laws
+pub mod Search
 pub mod Truth

@@ -6,8 +6,8 @@ use crate::atom::Atom;
 use crate::pred::Pred;
 use value_core::CmpOp;
 
-// The place of a comparison among the six.
-fn op_number(op: CmpOp) -> u8
+/// The place of a comparison among the six.
+pub fn op_number(op: CmpOp) -> u8
     ensures { result ≡ op_number op }
 {
     match op {

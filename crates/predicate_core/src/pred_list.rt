@@ -146,8 +146,8 @@ fn one_up(atoms: &[Atom], bound: u32, number: u64) -> Option<Pred>
     }
 }
 
-// How many predicates of two atoms there are, as far as the bound goes.
-fn two_len(n: u64, bound: u32) -> u64
+/// How many predicates of two atoms there are, as far as the bound goes.
+pub fn two_len(n: u64, bound: u32) -> u64
     requires { n ≤ 100000 }
     ensures count { result ≡ (if nat_le 2 bound then 2 * pair_count n else 0) }
     ensures small { result ≤ 20000000000 }
@@ -155,8 +155,8 @@ fn two_len(n: u64, bound: u32) -> u64
     if bound >= 2 { 2 * pair_count(n) } else { 0 }
 }
 
-// How many predicates of three atoms there are, as far as the bound goes.
-fn three_len(n: u64, bound: u32) -> u64
+/// How many predicates of three atoms there are, as far as the bound goes.
+pub fn three_len(n: u64, bound: u32) -> u64
     requires { n ≤ 100000 }
     ensures count { result ≡ (if nat_le 3 bound then 2 * triple_count n else 0) }
     ensures small { result ≤ 2000000000000000 }
