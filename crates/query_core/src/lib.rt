@@ -3,12 +3,16 @@
 
 mod agg;
 mod agree;
+mod atom_order;
 mod column_check;
 mod fault;
 mod kinds;
+mod membership;
 mod names;
 mod node;
 mod query;
+mod rules;
+mod sizes;
 mod types;
 
 pub use agg::Agg;
@@ -16,6 +20,7 @@ pub use agree::{same_type, same_types, types_agree};
 pub use column_check::columns;
 pub use fault::QueryFault;
 pub use kinds::{Pairing, Uniting};
+pub use membership::belongs;
 pub use names::{names_columns, names_inputs};
 pub use node::Node;
 pub use query::Query;

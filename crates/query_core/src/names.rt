@@ -63,7 +63,7 @@ fn agg_in_range(width: usize, agg: &Agg) -> bool
 }
 
 // Whether these keys are among so many columns.
-fn keys_in_range(width: usize, keys: &[usize]) -> bool
+pub(crate) fn keys_in_range(width: usize, keys: &[usize]) -> bool
     ensures { result ≡ list_all (λ k. nat_lt k width) keys.now }
 {
     keys.iter().all(|key| *key < width)

@@ -12,7 +12,7 @@ use Rattle.query_core.specs.Meaning.{type_at}
 use Rattle.query_core.specs.Grammar.{key_lists, free_columns, int_columns, allowed, agg_list}
 use Rattle.query_core.specs.declared.agg.Agg.{Agg}
 use Rattle.query_core.specs.declared.agg.Agg.TheVariants.{CountAll, Count, CountDistinct, Sum, Min, Max}
-use Rattle.query_laws.specs.Skeleton.{are_keys, is_free, is_allowed}
+use Rattle.query_core.specs.Skeleton.{are_keys, is_free, is_allowed}
 use Rattle.query_laws.proofs.MemberLaws.{in_front, in_back, map_in, in_filter, filter_in, in_range, range_in, in_range_pairs, range_pairs_in, InSix, in_six, six_in}
 
 -- the key lists of one column, and those of two

@@ -19,7 +19,7 @@ use Rattle.query_core.specs.declared.kinds.Pairing.TheVariants.{Join, Left}
 use Rattle.query_core.specs.declared.kinds.Uniting.{Uniting}
 use Rattle.query_core.specs.declared.kinds.Uniting.TheVariants.{All, Firsts}
 use Rattle.query_laws.specs.Laws.{ListsSkeletons, LevelsByOperators}
-use Rattle.query_laws.specs.Skeleton.{operators, is_open, are_keys, is_allowed, is_formed}
+use Rattle.query_core.specs.Skeleton.{operators, is_open, are_keys, is_allowed, is_formed}
 use Rattle.query_laws.proofs.ListLaws.{contains_in, in_contains}
 use Rattle.query_laws.proofs.MemberLaws.{in_equal, map_in, in_kept, kept_in, in_flat_map, flat_map_in, in_range, range_in, InSix, in_six, six_in}
 use Rattle.query_laws.proofs.GroupKeyLaws.{keys_fit, keys_listed, aggs_allowed, aggs_listed}

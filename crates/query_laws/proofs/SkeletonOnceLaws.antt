@@ -21,7 +21,7 @@ use Rattle.query_core.specs.declared.kinds.Pairing.TheVariants.{Join, Left}
 use Rattle.query_core.specs.declared.kinds.Uniting.{Uniting}
 use Rattle.query_core.specs.declared.kinds.Uniting.TheVariants.{All, Firsts}
 use Rattle.query_core.specs.Grammar.{takes_filter, may_pair, may_unite, level_at, products, level_pairs, last_level, key_lists, free_columns, int_columns, allowed, agg_list, groups_of, next_level, bases, levels, skeletons}
-use Rattle.query_laws.specs.Skeleton.{operators}
+use Rattle.query_core.specs.Skeleton.{operators}
 use Rattle.query_laws.proofs.LevelLaws.{levels_length, pair_with, in_products, pairs_from, in_pairs_of_levels}
 use Rattle.query_laws.proofs.MemberLaws.{in_one, in_flat_map}
 use Rattle.query_laws.proofs.JoinedLists.{once_one, once_filter, once_flat_map, once_range, Each, each_append, each_kept, IsOf, from_of, from_both, of_map}

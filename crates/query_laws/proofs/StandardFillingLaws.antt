@@ -18,7 +18,7 @@ use Rattle.query_core.specs.Grammar.{leaves, takes_filter, pair_in_order, may_me
 use Rattle.query_core.specs.Standard.{keeps_all, rows_or_none, first_of, std}
 use Rattle.query_core.specs.declared.kinds.Pairing.{Pairing}
 use Rattle.query_core.specs.declared.kinds.Pairing.TheVariants.{Join, Left}
-use Rattle.query_laws.specs.Skeleton.{operators, are_keys, is_allowed, is_formed}
+use Rattle.query_core.specs.Skeleton.{operators, are_keys, is_allowed, is_formed}
 use Rattle.query_laws.proofs.MemberLaws.{in_one, map_in, flat_map_in}
 use Rattle.query_laws.proofs.FillingLaws.{of_each_in, in_filter_fillings, in_pair_fillings, in_group_fillings, in_union_fillings}
 use Rattle.query_laws.proofs.QueryLaws.{opened}
@@ -27,14 +27,14 @@ use Rattle.query_laws.proofs.AlikeLaws.{first_in, first_keeps_all, always_keeps_
 use Rattle.query_laws.proofs.StandardTreeLaws.{by_filter, leaves_std, columns_std, takes_filter_std}
 
 -- an opened tree has the tree's leaves, columns and operators, and takes a filter where the tree does
-leaves_opened : (tree : Tree) → leaves (opened tree) ≡ leaves tree
+pub leaves_opened : (tree : Tree) → leaves (opened tree) ≡ leaves tree
 leaves_opened (t.base table) = refl
 leaves_opened (t.filter child p) = leaves_opened child
 leaves_opened (t.pair kind a b p) = ap₂ (λ x y. x ++ y) (leaves_opened a) (leaves_opened b)
 leaves_opened (t.group child keys agg) = leaves_opened child
 leaves_opened (t.unite kind a b) = ap₂ (λ x y. x ++ y) (leaves_opened a) (leaves_opened b)
 
-columns_opened : (task : TaskParts) (tree : Tree) → columns task.inputs (opened tree) ≡ columns task.inputs tree
+pub columns_opened : (task : TaskParts) (tree : Tree) → columns task.inputs (opened tree) ≡ columns task.inputs tree
 columns_opened task (t.base table) = refl
 columns_opened task (t.filter child p) = columns_opened task child
 columns_opened task (t.pair kind a b p) = ap₂ (λ x y. x ++ y) (columns_opened task a) (columns_opened task b)
@@ -48,7 +48,7 @@ operators_opened (t.pair kind a b p) = ap₂ (λ m n. (m + n) + 1) (operators_op
 operators_opened (t.group child keys agg) = ap (λ n. n + 1) (operators_opened child)
 operators_opened (t.unite kind a b) = ap₂ (λ m n. (m + n) + 1) (operators_opened a) (operators_opened b)
 
-takes_filter_opened : (tree : Tree) → takes_filter (opened tree) ≡ takes_filter tree
+pub takes_filter_opened : (tree : Tree) → takes_filter (opened tree) ≡ takes_filter tree
 takes_filter_opened (t.base table) = refl
 takes_filter_opened (t.filter child p) = refl
 takes_filter_opened (t.pair kind a b p) = refl
@@ -73,10 +73,10 @@ pair_order_same : (kind : Pairing) (a b c d : Tree) → leaves a ≡ leaves c �
 pair_order_same Join a b c d left right = in_order_same a b c d left right
 pair_order_same Left a b c d left right = refl
 
-pair_same : (task : TaskParts) (kind : Pairing) (a b c d : Tree) → leaves a ≡ leaves c → leaves b ≡ leaves d → may_pair task kind (a, b) ≡ may_pair task kind (c, d)
+pub pair_same : (task : TaskParts) (kind : Pairing) (a b c d : Tree) → leaves a ≡ leaves c → leaves b ≡ leaves d → may_pair task kind (a, b) ≡ may_pair task kind (c, d)
 pair_same task kind a b c d left right = ap₂ (λ x y. x && y) (meet_same task a b c d left right) (pair_order_same kind a b c d left right)
 
-unite_same : (task : TaskParts) (a b c d : Tree) → leaves a ≡ leaves c → leaves b ≡ leaves d → columns task.inputs a ≡ columns task.inputs c → columns task.inputs b ≡ columns task.inputs d
+pub unite_same : (task : TaskParts) (a b c d : Tree) → leaves a ≡ leaves c → leaves b ≡ leaves d → columns task.inputs a ≡ columns task.inputs c → columns task.inputs b ≡ columns task.inputs d
     → may_unite task (a, b) ≡ may_unite task (c, d)
 unite_same task a b c d left right lefts rights =
     ap₂ (λ x y. x && y)

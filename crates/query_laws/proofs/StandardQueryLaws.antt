@@ -12,7 +12,7 @@ use Rattle.query_core.specs.Meaning.{columns, rows, selected, given_rows, given}
 use Rattle.query_core.specs.Grammar.{skeletons, maps, fillings, with_flags, queries_of_body, queries_of}
 use Rattle.query_core.specs.Standard.{rows_or_none, is_standard_tree, std, removes_some, std_query}
 use Rattle.query_laws.specs.Laws.{plain_queries}
-use Rattle.query_laws.specs.Skeleton.{operators, is_formed, is_skeleton}
+use Rattle.query_core.specs.Skeleton.{operators, is_formed, is_skeleton}
 use Rattle.query_laws.specs.StandardForm.{FormsAreQueries, FormsAreStandard, FormsGiveTheSame, StandardStays}
 use Rattle.query_laws.proofs.ListLaws.{contains_in, in_contains}
 use Rattle.query_laws.proofs.MemberLaws.{in_equal, in_flat_map, flat_map_in}
@@ -23,10 +23,10 @@ use Rattle.query_laws.proofs.StandardTreeLaws.{columns_std, operators_std, rows_
 use Rattle.query_laws.proofs.StandardFillingLaws.{operators_opened, formed_std, HolesFit, filling_fits, fits_filling, fits_std}
 
 -- what a query of the grammar says of itself: its skeleton is one, its predicates are of their holes, and its map is one of the body's
-abbrev Belongs : TaskParts → Select → Type 0
+abbrev pub Belongs : TaskParts → Select → Type 0
 Belongs task q = (is_skeleton task (opened q.body) ≡ true) × HolesFit task q.body × In q.picks (maps (columns task.inputs q.body) (types_of task.output))
 
-in_belongs : (task : TaskParts) (q : Select) → In q (plain_queries task) → Belongs task q
+pub in_belongs : (task : TaskParts) (q : Select) → In q (plain_queries task) → Belongs task q
 in_belongs task q i =
     let h = in_flat_map (queries_of task) q (skeletons task) (in_equal q _ _ (plain_queries_are task) i) in
     let g = in_queries_of task h.0 q h.2 in
@@ -38,7 +38,7 @@ flags_in : (body : Tree) (picks : List ℕ) (distinct : Bool) → In (record { b
 flags_in body picks false = inl refl
 flags_in body picks true = inr (inl refl)
 
-belongs_in : (task : TaskParts) (q : Select) → Belongs task q → In q (plain_queries task)
+pub belongs_in : (task : TaskParts) (q : Select) → Belongs task q → In q (plain_queries task)
 belongs_in task q is =
     let skeleton = opened q.body in
     let listed = contains_in (skeletons task) skeleton ((lists_skeletons task skeleton).0 is.0) in

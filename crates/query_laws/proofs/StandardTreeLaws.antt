@@ -17,7 +17,7 @@ use Rattle.query_core.specs.Meaning.{columns, hole_types, group_types, rows, of_
 use Rattle.query_core.specs.Grammar.{leaves, takes_filter, predicates}
 use Rattle.query_core.specs.Standard.{keeps_all, rows_or_none, is_first, is_standard_filter, is_standard_pair, is_standard_tree, first_of, std_filter, std_pair, std}
 use Rattle.query_core.specs.declared.kinds.Pairing.{Pairing}
-use Rattle.query_laws.specs.Skeleton.{operators}
+use Rattle.query_core.specs.Skeleton.{operators}
 use Rattle.query_laws.proofs.AlikeLaws.{filtered_agree, filtered_all, both_agree, first_agrees, first_stays, first_keeps_all}
 
 -- the standard form of a filter over c is c where p keeps all, else a filter

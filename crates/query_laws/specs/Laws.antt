@@ -1,10 +1,13 @@
 -- Laws of the definitions of queries: of skeletons, of keys, and of the rows of groups.
-use Rattle.std.specs.Prelude.{◌≡◌, ℕ, ◌<◌, ◌≤◌, Bool, false, ◌&&◌, ◌==◌, List, [], ◌∷◌, ◌++◌, map, length, slice_get, Some, IsTrue, Contains, ◌↔◌, IsPermutation}
+use Rattle.std.specs.Prelude.{◌≡◌, ℕ, ◌<◌, ◌≤◌, Bool, false, ◌&&◌, ◌==◌, List, [], ◌∷◌, ◌++◌, map, length, slice_get, Some, None, IsTrue, Contains, ◌↔◌, IsPermutation}
 use Rattle.std.specs.Prelude.{filter as list_filter}
 use Rattle.std.specs.declared.cmp.Ordering.{Ordering}
 use Rattle.std.specs.declared.cmp.Ordering.TheVariants.{Equal}
 use Rattle.value_core.specs.declared.value.Value.{Value}
+use Rattle.value_core.specs.declared.value.ColType.{ColType}
+use Rattle.predicate_core.specs.Atoms.{atom_list}
 use Rattle.predicate_core.specs.Laws.{EachOnce}
+use Rattle.predicate_core.specs.declared.atom.Atom.{Atom}
 use Rattle.table_core.specs.Rows.{Row}
 use Rattle.table_core.specs.Bag.{has_double}
 use Rattle.table_core.specs.declared.task.TaskParts.{TaskParts}
@@ -12,11 +15,12 @@ use Rattle.query_core.specs.Tree.{Tree, Select}
 use Rattle.query_core.specs.Firsts.{projected, firsts}
 use Rattle.query_core.specs.Groups.{aggregate, group_keys, members, grouped}
 use Rattle.query_core.specs.Grammar.{Numbered, level_at, levels, skeletons, queries}
+use Rattle.query_core.specs.Membership.{atom_before, query_fault}
 use Rattle.query_core.specs.Rank.{Key, key, before}
 use Rattle.query_core.specs.Answers.{RankedQuery, ascending}
 use Rattle.query_core.specs.declared.agg.Agg.{Agg}
 use Rattle.query_laws.specs.Parts.{IsPart}
-use Rattle.query_laws.specs.Skeleton.{operators, is_formed, is_skeleton}
+use Rattle.query_core.specs.Skeleton.{operators, is_formed, is_skeleton}
 
 -- a tree stands in the list of skeletons exactly where it is one
 abbrev pub ListsSkeletons : TaskParts → Type 0
@@ -29,6 +33,16 @@ LevelsByOperators task = (n : ℕ) (tree : Tree) → n ≤ task.ops → IsTrue (
 -- the queries of a task, without the numbers of their skeletons
 abbrev pub plain_queries : TaskParts → List Select
 plain_queries task = map (λ n. n.query) (queries task)
+
+-- a query is one of the grammar exactly where nothing is wrong with it
+abbrev pub FaultsDecide : TaskParts → Type 0
+FaultsDecide task = (q : Select) → (query_fault task q ≡ None) ↔ Contains (plain_queries task) q
+
+-- each atom of a hole's list stands before each later one
+abbrev pub AtomsAscend : List ColType → List Value → Type 0
+AtomsAscend types constants =
+    (i j : ℕ) (a b : Atom) → i < j → slice_get (atom_list types constants) i ≡ Some a → slice_get (atom_list types constants) j ≡ Some b
+    → IsTrue (atom_before a b)
 
 -- the key of a numbered query
 abbrev pub key_of : TaskParts → Numbered → Key

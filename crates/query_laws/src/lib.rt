@@ -1,7 +1,8 @@
-//! Laws of the definitions of queries: of skeletons, of keys, of the rows of groups, and of the standard form.
+//! Laws of the definitions of queries: of skeletons, of membership, of keys, of the rows of groups, and of the standard form.
 #![tactic(auto)]
 
 mod key_laws;
+mod member_laws;
 mod row_laws;
 mod skeleton_laws;
 mod standard_laws;
@@ -9,6 +10,7 @@ mod standard_laws;
 pub use key_laws::{
     answers_ascend, ascending_keeps_elements, key_order_is_total, keys_are_apart, queries_are_once,
 };
+pub use member_laws::{atoms_are_in_order, faults_decide_membership};
 pub use row_laws::{
     firsts_are_first_copies, groups_are_by_key, groups_are_by_members, groups_have_members,
     groups_of_a_part, members_of_the_kept,

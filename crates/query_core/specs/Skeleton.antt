@@ -35,9 +35,13 @@ are_keys width (i ∷ []) = nat_lt i width
 are_keys width (i ∷ j ∷ []) = nat_lt i j && nat_lt j width
 are_keys width (i ∷ j ∷ k ∷ more) = false
 
+-- whether a column is none of these keys
+abbrev pub is_no_key : List ℕ → ℕ → Bool
+is_no_key keys column = not (list_any (λ k. k == column) keys)
+
 -- whether a column is one of so many, and no key
 abbrev pub is_free : ℕ → List ℕ → ℕ → Bool
-is_free width keys column = nat_lt column width && not (list_any (λ k. k == column) keys)
+is_free width keys column = nat_lt column width && is_no_key keys column
 
 -- whether the task allows an aggregate over columns of these types, with these keys
 abbrev pub is_allowed : AggSet → List ColType → List ℕ → Agg → Bool
