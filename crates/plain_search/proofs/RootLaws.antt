@@ -1,9 +1,10 @@
 -- The answers of skeletons, by those of their parts.
-use Rattle.std.proofs.Common.{◌≡◌, ℕ, Bool, true, false, ◌&&◌, ◌||◌, not, ◌==◌, List, [], ◌∷◌, ◌++◌, map, length, Option, Some, None, is_some, refl, sym, ap, ◌∙◌, if◌then◌else◌}
+use Rattle.std.proofs.Common.{◌≡◌, ◌+◌, ◌≤◌, ℕ, drop, append_assoc, Bool, true, false, ◌&&◌, ◌||◌, not, ◌==◌, List, [], ◌∷◌, ◌++◌, map, length, Option, Some, None, is_some, refl, sym, ap, ◌∙◌, if◌then◌else◌}
 use Rattle.std.specs.Prelude.{filter as list_filter}
-use Rattle.std.specs.List.{flat_map, enumerate_from}
+use Rattle.std.specs.List.{flat_map, enumerate_from, slice_get}
 use Rattle.std.proofs.lemmas.Bool.{false≢true}
-use Rattle.std.proofs.lemmas.List.{map-append, append-nil}
+use Rattle.std.proofs.lemmas.List.{map-append, append-nil, at_drop_more, drop_all}
+use Rattle.std.proofs.lemmas.Option.{get_or_from_slice_get, slice_get_within}
 use Rattle.std.proofs.lemmas.List.Elements.{filter-append}
 use Rattle.table_core.specs.Rows.{Row, types_of}
 use Rattle.table_core.specs.Bag.{same_rows, has_double}
@@ -12,7 +13,7 @@ use Rattle.query_core.specs.Tree.{Tree, Select}
 use Rattle.query_core.specs.Meaning.{columns, rows, selected, given_rows}
 use Rattle.query_core.specs.Grammar.{Numbered, maps, with_flags, queries_of_body, queries_of, fillings, numbered, skeletons}
 use Rattle.query_core.specs.Standard.{rows_or_none, is_standard_tree}
-use Rattle.query_core.specs.Answers.{ranked, is_answer, found}
+use Rattle.query_core.specs.Answers.{RankedQuery, ranked, is_answer, found}
 use Rattle.query_core.proofs.MapLaws.{flat_map_twice, flat_map_same, flat_map_none, flat_map_filter, kept_joined}
 use Rattle.map_choices.specs.Fitting.{fits}
 use Rattle.map_choices.proofs.FitLaws.{given_fits}
@@ -114,3 +115,26 @@ pub found_is : (task : TaskParts) → map (ranked task) (found task) ≡ kept_of
 found_is task =
     kept_joined (ranked task) (is_answer task) (numbered task) (enumerate_from 0 (skeletons task))
     ∙ flat_map_same (λ s. map (ranked task) (list_filter (is_answer task) (numbered task s))) (kept_of task) (enumerate_from 0 (skeletons task)) (kept_skeleton task)
+
+-- the elements from a place on, where one is there
+from_place : {X : Type 0} (xs : List X) (i : ℕ) (x : X) → slice_get xs i ≡ Some x → drop i xs ≡ x ∷ drop (i + 1) xs
+from_place xs i x there =
+    let within = slice_get_within xs i x there in
+    at_drop_more (λ (ys : List _). ys) xs i x within ∙ ap (λ y. y ∷ drop (i + 1) xs) (get_or_from_slice_get xs i x x there)
+
+-- the answers of one skeleton more
+pub found_more : (task : TaskParts) (trees : List Tree) (i : ℕ) (t : Tree) (front more whole : List RankedQuery)
+    → slice_get trees i ≡ Some t → front ++ flat_map (kept_of task) (enumerate_from i (drop i trees)) ≡ whole → more ≡ front ++ kept_of task (i, t)
+    → more ++ flat_map (kept_of task) (enumerate_from (i + 1) (drop (i + 1) trees)) ≡ whole
+found_more task trees i t front more whole there so_far pushed =
+    let rest = flat_map (kept_of task) (enumerate_from (i + 1) (drop (i + 1) trees)) in
+    ap (λ (out : List RankedQuery). out ++ rest) pushed
+    ∙ append_assoc front (kept_of task (i, t)) rest
+    ∙ ap (λ (ts : List Tree). front ++ flat_map (kept_of task) (enumerate_from i ts)) (sym (from_place trees i t there))
+    ∙ so_far
+
+-- the answers of all skeletons, where none is left
+pub found_all : (task : TaskParts) (trees : List Tree) (i : ℕ) (front whole : List RankedQuery)
+    → length trees ≤ i → front ++ flat_map (kept_of task) (enumerate_from i (drop i trees)) ≡ whole → front ≡ whole
+found_all task trees i front whole past so_far =
+    sym (append-nil front) ∙ ap (λ (ts : List Tree). front ++ flat_map (kept_of task) (enumerate_from i ts)) (sym (drop_all i trees past)) ∙ so_far

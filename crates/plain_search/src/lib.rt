@@ -8,4 +8,4 @@ mod fill;
 mod roots;
 mod search;
 
-pub use search::{few, plain};
+pub use search::{few, plain, plain_over};

@@ -1,7 +1,8 @@
-ghost use Rattle.std.specs.Prelude.{◌≡◌, ◌≤◌, ◌<◌, ◌^◌, ◌++◌, OnOk, IfOk, map, flat_map, length, option_map};
+ghost use Rattle.std.specs.Prelude.{◌≡◌, ◌++◌, OnOk, IfOk, map, flat_map};
 ghost use Rattle.query_core.specs.View.{tree};
 ghost use Rattle.rank_core.specs.View.{ranked_query};
-ghost use Rattle.plain_search.specs.Filled.{as_list, filter_on, filters_on, pair_filled, pairs_on, groups_on, unions_on, of_each_filled};
+ghost use Rattle.skeleton_graph.specs.Nodes.{trees_of};
+ghost use Rattle.plain_search.specs.Filled.{filter_on, filters_on, pair_filled, pairs_on, groups_on, unions_on, of_each_filled};
 ghost use Rattle.plain_search.specs.Kept.{kept_on, kept_of, kept_of_all};
 ghost use Rattle.plain_search.specs.View.{filled};
 
@@ -11,6 +12,7 @@ use crate::fill::{child_choices, fill, filter_on, pair_choices};
 use hole_choices::Choice;
 use query_core::{Agg, Node, Pairing, Uniting};
 use rank_core::Ranked;
+use skeleton_graph::Graph;
 use std::alloc::Global;
 use table_core::Task;
 use value_core::OutOfMemory;
@@ -257,14 +259,14 @@ pub fn push_skeleton(
     }
 }
 
-/// The answers of some skeletons, which are numbered from 0, in the grammar's order.
-pub fn found(alloc: Global, task: &Task, skeletons: &[Node]) -> Result<Vec<Ranked>, OutOfMemory>
-    requires small { length skeletons.now < 2 ^ 32 }
-    ensures { IfOk result (λ list. map ranked_query list.items ≡ kept_of_all task.now (map tree skeletons.now)) }
+/// The answers of the skeletons of a graph, in the grammar's order.
+pub fn found(alloc: Global, task: &Task, graph: &Graph) -> Result<Vec<Ranked>, OutOfMemory>
+    ensures { IfOk result (λ list. map ranked_query list.items ≡ kept_of_all task.now (trees_of graph.now.nodes)) }
 {
     let mut out = Vec::new(alloc);
-    for number in 0..skeletons.len() {
-        push_skeleton(alloc, task, number as u32, &skeletons[number], &mut out)?;
+    for number in 0..graph.len() {
+        let skeleton = graph.tree(alloc, number)?;
+        push_skeleton(alloc, task, number, &skeleton, &mut out)?;
     }
     Ok(out)
 }

@@ -1,35 +1,35 @@
 ghost use Rattle.std.specs.Prelude.{◌≡◌, ◌≤◌, nat_le, length, map, IfOk};
 ghost use Rattle.query_core.specs.Grammar.{skeletons};
-ghost use Rattle.query_core.specs.Answers.{answers, ranked, found};
+ghost use Rattle.query_core.specs.Answers.{answers};
 ghost use Rattle.rank_core.specs.View.{ranked_query};
+ghost use Rattle.skeleton_graph.specs.Nodes.{trees_of};
 
 use crate::roots::found;
 use rank_core::{Ranked, sort};
-use skeleton_list::skeletons;
+use skeleton_graph::{Graph, GraphFault, build};
 use std::alloc::Global;
 use table_core::Task;
 use value_core::OutOfMemory;
-
-// The most skeletons of a task that is listed.
-const MOST_SKELETONS: usize = 100_000;
 
 /// Whether a task has at most 100,000 skeletons. It looks no further than these.
 pub fn few(alloc: Global, task: &Task) -> Result<bool, OutOfMemory>
     ensures { IfOk result (λ b. b ≡ nat_le (length (skeletons task.now)) 100000) }
 {
-    let listed = skeletons(alloc, task, MOST_SKELETONS)?;
-    Ok(listed.is_some())
+    match build(alloc, task) {
+        Ok(_) => Ok(true),
+        Err(GraphFault::TooMany { .. }) => Ok(false),
+        Err(GraphFault::OutOfMemory) => Err(OutOfMemory),
+    }
 }
 
-// The answers of a task, in the grammar's order.
-fn listed(alloc: Global, task: &Task) -> Result<Vec<Ranked>, OutOfMemory>
-    requires small { length (skeletons task.now) ≤ 100000 }
-    ensures { IfOk result (λ list. map ranked_query list.items ≡ map (ranked task.now) (found task.now)) }
+/// The answers of a task, best first, over the graph of its skeletons.
+pub fn plain_over(alloc: Global, task: &Task, graph: &Graph) -> Result<Vec<Ranked>, OutOfMemory>
+    requires { trees_of graph.now.nodes ≡ skeletons task.now }
+    ensures { IfOk result (λ list. map ranked_query list.items ≡ answers task.now) }
 {
-    match skeletons(alloc, task, MOST_SKELETONS)? {
-        Some(nodes) => found(alloc, task, nodes.as_slice()),
-        None => unreachable!(),
-    }
+    let mut list = found(alloc, task, graph)?;
+    sort(&mut list)?;
+    Ok(list)
 }
 
 /// The answers of a task, best first.
@@ -37,7 +37,9 @@ pub fn plain(alloc: Global, task: &Task) -> Result<Vec<Ranked>, OutOfMemory>
     requires { length (skeletons task.now) ≤ 100000 }
     ensures { IfOk result (λ list. map ranked_query list.items ≡ answers task.now) }
 {
-    let mut list = listed(alloc, task)?;
-    sort(&mut list)?;
-    Ok(list)
+    match build(alloc, task) {
+        Ok(graph) => plain_over(alloc, task, &graph),
+        Err(GraphFault::TooMany { .. }) => unreachable!(),
+        Err(GraphFault::OutOfMemory) => Err(OutOfMemory),
+    }
 }

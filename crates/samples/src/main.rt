@@ -12,6 +12,7 @@ mod keys;
 mod lists;
 mod make;
 mod maps;
+mod membership;
 mod predicates;
 mod queries;
 mod readings;
@@ -43,6 +44,7 @@ fn main(rt: HostRuntime) -> Result<(), Failed> {
     holes::samples(&rt, alloc)?;
     shapes::samples(&rt, alloc)?;
     maps::samples(&rt, alloc)?;
+    membership::samples(&rt, alloc)?;
     queries::samples(&rt, alloc)?;
     search::samples(&rt, alloc)?;
     files::samples(&rt, alloc)?;

@@ -1,9 +1,11 @@
-//! Skeletons.
+//! Skeletons, as a graph.
+
+ghost use Rattle.std.specs.Prelude.{◌<◌, length};
 
 use crate::fault::Failed;
 use crate::make::{Shape, task};
-use query_core::{Agg, Node};
-use skeleton_list::skeletons;
+use query_core::Agg;
+use skeleton_graph::{Graph, GraphFault, Kind, build};
 use std::alloc::Global;
 use table_core::{AggSet, Task};
 
@@ -12,97 +14,130 @@ const LEAST: Shape = Shape {
     ..Shape::LEAST
 };
 
-// Tasks, each with the most skeletons that are listed.
-const CASES: &[(Shape, usize)] = &[
-    (LEAST, 1),
-    (LEAST, 0),
-    (
-        Shape {
-            numbers: [1, 1, 1, 1, 1],
-            ..LEAST
+const SIX: Shape = Shape {
+    numbers: [1, 2, 1, 1, 1],
+    ..LEAST
+};
+
+const WIDE: &str = "a# b# c# d# e# f#";
+
+const CASES: &[Shape] = &[
+    LEAST,
+    Shape {
+        numbers: [1, 1, 1, 1, 1],
+        ..LEAST
+    },
+    SIX,
+    Shape {
+        inputs: &[("t", "k n#"), ("u", "k n#")],
+        ..SIX
+    },
+    Shape {
+        numbers: [2, 1, 1, 1, 1],
+        ..LEAST
+    },
+    Shape {
+        aggregates: AggSet {
+            count_all: true,
+            sum: true,
+            ..AggSet::NONE
         },
-        2,
-    ),
-    (
-        Shape {
-            numbers: [1, 2, 1, 1, 1],
-            ..LEAST
+        numbers: [1, 1, 1, 1, 1],
+        ..LEAST
+    },
+    Shape {
+        inputs: &[("a", WIDE), ("b", WIDE), ("c", WIDE), ("d", WIDE)],
+        aggregates: AggSet {
+            count_all: true,
+            count: true,
+            count_distinct: true,
+            sum: true,
+            min: true,
+            max: true,
         },
-        6,
-    ),
-    (
-        Shape {
-            inputs: &[("t", "k n#"), ("u", "k n#")],
-            numbers: [1, 2, 1, 1, 1],
-            ..LEAST
-        },
-        17,
-    ),
-    (
-        Shape {
-            inputs: &[("t", "k n#"), ("u", "k n#")],
-            numbers: [1, 2, 1, 1, 1],
-            ..LEAST
-        },
-        16,
-    ),
-    (
-        Shape {
-            numbers: [2, 1, 1, 1, 1],
-            ..LEAST
-        },
-        9,
-    ),
-    (
-        Shape {
-            aggregates: AggSet {
-                count_all: true,
-                sum: true,
-                ..AggSet::NONE
-            },
-            numbers: [1, 1, 1, 1, 1],
-            ..LEAST
-        },
-        9,
-    ),
+        numbers: [4, 3, 1, 1, 1],
+        ..LEAST
+    },
 ];
 
 // The name of a node's kind.
-fn kind(node: &Node) -> &'static str {
-    match node {
-        Node::Base(_) => "base",
-        Node::Filter(..) => "filter",
-        Node::Join(..) => "join",
-        Node::Left(..) => "left",
-        Node::Group(_, _, Agg::CountAll) => "count",
-        Node::Group(_, _, Agg::Sum(_)) => "sum",
-        Node::Group(..) => "group",
-        Node::UnionAll(..) => "all",
-        Node::Union(..) => "union",
+fn name(kind: &Kind) -> &'static str {
+    match kind {
+        Kind::Base(_) => "base",
+        Kind::Filter => "filter",
+        Kind::Join => "join",
+        Kind::Left => "left",
+        Kind::Group(_, Agg::CountAll) => "count",
+        Kind::Group(_, Agg::Sum(_)) => "sum",
+        Kind::Group(..) => "group",
+        Kind::UnionAll => "all",
+        Kind::Union => "union",
     }
 }
 
-// The kinds of a task's skeletons in order.
-fn listed(rt: &impl Print, alloc: Global, task: &Task, most: usize) -> Result<(), Failed> {
-    match skeletons(alloc, task, most)? {
-        Some(nodes) => {
-            for node in nodes.as_slice() {
-                print!(rt; "{} ", kind(node))?;
-            }
-        }
-        None => print!(rt; "more than {most} ")?,
+// The kinds of a graph's nodes in order.
+fn kinds(rt: &impl Print, graph: &Graph) -> Result<(), Failed> {
+    for k in 0..graph.len() {
+        print!(rt; "{} ", name(&graph.node(k).kind))?;
     }
     println!(rt; "skeletons")?;
     Ok(())
 }
 
-fn all(rt: &impl Print, alloc: Global, cases: &[(Shape, usize)]) -> Result<(), Failed> {
-    for (shape, most) in cases {
-        listed(rt, alloc, &task(alloc, shape)?, *most)?;
+// The graph of a task, none where there are too many skeletons.
+fn graph(alloc: Global, task: &Task) -> Result<Option<Graph>, Failed> {
+    match build(alloc, task) {
+        Ok(graph) => Ok(Some(graph)),
+        Err(GraphFault::TooMany { .. }) => Ok(None),
+        Err(GraphFault::OutOfMemory) => Err(Failed::NoMemory),
+    }
+}
+
+fn listed(rt: &impl Print, alloc: Global, shape: &Shape) -> Result<(), Failed> {
+    match graph(alloc, &task(alloc, shape)?)? {
+        Some(graph) => kinds(rt, &graph),
+        None => {
+            println!(rt; "more than 100000 skeletons")?;
+            Ok(())
+        }
+    }
+}
+
+// The uses of a node, each the number of the user and its side.
+fn uses(rt: &impl Print, graph: &Graph, k: u32) -> Result<(), Failed>
+    requires { k < length graph.now.nodes }
+{
+    print!(rt; "  used by")?;
+    for (user, side) in graph.uses(k) {
+        print!(rt; " {user}.{side}")?;
+    }
+    Ok(())
+}
+
+// A node: its tree and the types of its columns, its uses, and the nodes above it.
+fn node(rt: &impl Print, alloc: Global, graph: &Graph, k: u32) -> Result<(), Failed>
+    requires { k < length graph.now.nodes }
+{
+    println!(rt; "{:?} {:?}", graph.tree(alloc, k)?, graph.types(k))?;
+    uses(rt, graph, k)?;
+    println!(rt; ", below {:?}", graph.above(alloc, k)?.as_slice())?;
+    Ok(())
+}
+
+// The nodes of a graph.
+fn nodes(rt: &impl Print, alloc: Global, graph: &Graph) -> Result<(), Failed> {
+    for k in 0..graph.len() {
+        node(rt, alloc, graph, k)?;
     }
     Ok(())
 }
 
 pub fn samples(rt: &impl Print, alloc: Global) -> Result<(), Failed> {
-    all(rt, alloc, CASES)
+    for shape in CASES {
+        listed(rt, alloc, shape)?;
+    }
+    match graph(alloc, &task(alloc, &SIX)?)? {
+        Some(graph) => nodes(rt, alloc, &graph),
+        None => Err(Failed::BadSample),
+    }
 }

@@ -9,11 +9,11 @@ use Rattle.sql_print.specs.Text.{text, text_of}
 use Rattle.task_read.specs.Told.{Told, untold, faulty, ready, WhenReady, WhenFaulty}
 use Rattle.task_read.specs.Task.{Files, IsRead, task_told}
 use Rattle.task_read.specs.declared.fault.TaskFault.{TaskFault}
-use Rattle.top_call.specs.Form.{is_built}
+use Rattle.top_call.specs.Size.{has_few_skeletons}
 use Rattle.top_call.specs.Listing.{end_of, Prints, Answers, Runs, RunsWords}
 use Rattle.top_call.specs.Promise.{asked_file, IsReadIn_file, IfReady, IsRefused, RefusedAs, AnswersTask}
 use Rattle.top_call.specs.declared.end.End.{End}
-use Rattle.top_call.specs.declared.end.End.TheVariants.{Listed, Empty, Usage, BadTask, ReadFault, WriteFault, OutOfMemory, NotYet}
+use Rattle.top_call.specs.declared.end.End.TheVariants.{Listed, Empty, Usage, BadTask, ReadFault, WriteFault, OutOfMemory, TooMany}
 use Rattle.top_call.proofs.WriteLaws.{gained_front, unchanged_front}
 
 -- what a sink holds, if it tells it, and what a folder counts
@@ -50,7 +50,7 @@ if_always untold Q h = tt
 if_always (faulty f) Q h = tt
 if_always (ready t) Q h = h t
 
--- what is done with a task, by its form
+-- what is done with a task, by the number of its skeletons
 answers_listed : (b : Bool) (task : TaskParts) (old new : Held) (before now n : ℕ) → Answers b task old new before now (Listed n) → (b ≡ true) × (((n ≡ length (answers task)) × (0 < n)) × Gained old new (text task))
 answers_listed true task old new before now n a = (refl, a)
 answers_listed false task old new before now n a = absurd a
@@ -67,16 +67,16 @@ answers_unwritten false task old new before now a = absurd a
 front_file : (told : Files) (unread unread_now : Counts) (file : List ℕ) (old new : Held) (before now : ℕ) (end : End)
     → Runs told unread unread_now file old new before now end → IfReady (task_told told file) (λ task. GainedFront old new (text task))
 front_file told unread unread_now file old new before now (Listed n) runs =
-    if_ready (task_told told file) (λ t. Answers (is_built t) t old new before now (Listed n)) (λ t. GainedFront old new (text t)) (λ t a. gained_front old new (text t) (answers_listed (is_built t) t old new before now n a).1.1) runs
+    if_ready (task_told told file) (λ t. Answers (has_few_skeletons t) t old new before now (Listed n)) (λ t. GainedFront old new (text t)) (λ t a. gained_front old new (text t) (answers_listed (has_few_skeletons t) t old new before now n a).1.1) runs
 front_file told unread unread_now file old new before now Empty runs =
-    if_ready (task_told told file) (λ t. Answers (is_built t) t old new before now Empty) (λ t. GainedFront old new (text t)) (λ t a. gained_front old new (text t) (answers_empty (is_built t) t old new before now a).1.1) runs
+    if_ready (task_told told file) (λ t. Answers (has_few_skeletons t) t old new before now Empty) (λ t. GainedFront old new (text t)) (λ t a. gained_front old new (text t) (answers_empty (has_few_skeletons t) t old new before now a).1.1) runs
 front_file told unread unread_now file old new before now Usage runs = absurd runs
 front_file told unread unread_now file old new before now (BadTask f) runs = if_always (task_told told file) (λ t. GainedFront old new (text t)) (λ t. unchanged_front old new (text t) runs.1)
 front_file told unread unread_now file old new before now (ReadFault name) runs = if_always (task_told told file) (λ t. GainedFront old new (text t)) (λ t. unchanged_front old new (text t) runs.1)
 front_file told unread unread_now file old new before now WriteFault runs =
-    if_ready (task_told told file) (λ t. Answers (is_built t) t old new before now WriteFault) (λ t. GainedFront old new (text t)) (λ t a. (answers_unwritten (is_built t) t old new before now a).1.0) runs.0
+    if_ready (task_told told file) (λ t. Answers (has_few_skeletons t) t old new before now WriteFault) (λ t. GainedFront old new (text t)) (λ t a. (answers_unwritten (has_few_skeletons t) t old new before now a).1.0) runs.0
 front_file told unread unread_now file old new before now OutOfMemory runs = if_always (task_told told file) (λ t. GainedFront old new (text t)) (λ t. unchanged_front old new (text t) runs)
-front_file told unread unread_now file old new before now NotYet runs = if_always (task_told told file) (λ t. GainedFront old new (text t)) (λ t. unchanged_front old new (text t) runs.1)
+front_file told unread unread_now file old new before now TooMany runs = if_always (task_told told file) (λ t. GainedFront old new (text t)) (λ t. unchanged_front old new (text t) runs.1)
 
 pub front_words : (told : Files) (unread unread_now : Counts) (file : Option (List ℕ)) (old new : Held) (before now : ℕ) (end : End)
     → RunsWords told unread unread_now file old new before now end → IfReady (asked_file told file) (λ task. GainedFront old new (text task))

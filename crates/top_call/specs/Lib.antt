@@ -1,5 +1,5 @@
 pub mod Command
-pub mod Form
+pub mod Size
 pub mod Line
 pub mod Listing
 pub mod Piece

@@ -4,7 +4,7 @@ use Rattle.std.specs.Fmt.{decimal}
 use Rattle.task_read.specs.declared.fault.TaskFault.{TaskFault}
 use Rattle.task_read.specs.declared.fault.TaskFault.TheVariants.{TooLong, BadToml, UnknownKey, MissingKey, BadKey, BadText, NoHeader, BadName, BadWidth, BadCell, TooManyRows, TooManyColumns}
 use Rattle.top_call.specs.declared.end.End.{End}
-use Rattle.top_call.specs.declared.end.End.TheVariants.{Listed, Empty, Usage, BadTask, ReadFault, WriteFault, OutOfMemory, NotYet}
+use Rattle.top_call.specs.declared.end.End.TheVariants.{Listed, Empty, Usage, BadTask, ReadFault, WriteFault, OutOfMemory, TooMany}
 
 -- the words that tell what is wrong with a task
 abbrev pub fault_words : TaskFault → List ℕ
@@ -31,10 +31,10 @@ line (Listed count) = []
 line Empty = []
 line Usage = line_of (codes "the words are not understood")
 line (BadTask fault) = line_of (codes "bad task: " ++ fault_words fault)
+line TooMany = line_of (codes "more than 100000 skeletons")
 line (ReadFault file) = line_of (codes "cannot read " ++ file)
 line WriteFault = line_of (codes "cannot write")
 line OutOfMemory = line_of (codes "out of memory")
-line NotYet = line_of (codes "not built yet")
 
 -- the status of each end
 abbrev pub status : End → ℕ
@@ -42,7 +42,7 @@ status (Listed count) = 0
 status Empty = 1
 status Usage = 2
 status (BadTask fault) = 3
+status TooMany = 4
 status (ReadFault file) = 6
 status WriteFault = 7
 status OutOfMemory = 8
-status NotYet = 20

@@ -7,15 +7,15 @@ use Rattle.query_core.specs.Answers.{answers}
 use Rattle.sql_print.specs.Text.{text}
 use Rattle.task_read.specs.Told.{WhenReady, WhenFaulty}
 use Rattle.task_read.specs.Task.{Files, IsRead, task_told}
-use Rattle.top_call.specs.Form.{is_built}
+use Rattle.top_call.specs.Size.{has_few_skeletons}
 use Rattle.top_call.specs.declared.end.End.{End}
-use Rattle.top_call.specs.declared.end.End.TheVariants.{Listed, Empty, Usage, BadTask, ReadFault, WriteFault, OutOfMemory, NotYet}
+use Rattle.top_call.specs.declared.end.End.TheVariants.{Listed, Empty, Usage, BadTask, ReadFault, WriteFault, OutOfMemory, TooMany}
 
 -- the end of a run that wrote the text of so many answers
 abbrev pub end_of : ℕ → End
 end_of count = if count == 0 then Empty else Listed count
 
--- what listing a task of the form that is built does to the sink, beside its end
+-- what listing a task of few enough skeletons does to the sink, beside its end
 abbrev pub Prints : TaskParts → Option (List ℕ) → Option (List ℕ) → ℕ → ℕ → End → Type 0
 Prints task old new before now (Listed count) = ((count ≡ length (answers task)) × (0 < count)) × Gained old new (text task)
 Prints task old new before now Empty = (answers task ≡ []) × Gained old new (text task)
@@ -24,9 +24,9 @@ Prints task old new before now (BadTask fault) = ⊥
 Prints task old new before now (ReadFault file) = ⊥
 Prints task old new before now WriteFault = GainedFront old new (text task) × Rose before now
 Prints task old new before now OutOfMemory = new ≡ old
-Prints task old new before now NotYet = ⊥
+Prints task old new before now TooMany = ⊥
 
--- a refusal of a task that isn't of that form, beside its end
+-- a refusal of a task of too many, beside its end
 abbrev pub Refuses : Option (List ℕ) → Option (List ℕ) → End → Type 0
 Refuses old new (Listed count) = ⊥
 Refuses old new Empty = ⊥
@@ -35,23 +35,23 @@ Refuses old new (BadTask fault) = ⊥
 Refuses old new (ReadFault file) = ⊥
 Refuses old new WriteFault = ⊥
 Refuses old new OutOfMemory = new ≡ old
-Refuses old new NotYet = new ≡ old
+Refuses old new TooMany = new ≡ old
 
--- what is done with a task, beside its end: one of the form that is built is listed, and any other is refused
+-- what is done with a task, beside its end: one of few enough skeletons is listed, and any other is refused
 abbrev pub Answers : Bool → TaskParts → Option (List ℕ) → Option (List ℕ) → ℕ → ℕ → End → Type 0
 Answers true task old new before now end = Prints task old new before now end
 Answers false task old new before now end = Refuses old new end
 
 -- what a run of a task file does to folder and sink, beside its end
 abbrev pub Runs : Files → (List ℕ → ℕ) → (List ℕ → ℕ) → List ℕ → Option (List ℕ) → Option (List ℕ) → ℕ → ℕ → End → Type 0
-Runs told unread unread_now file old new before now (Listed count) = WhenReady (task_told told file) (λ task. Answers (is_built task) task old new before now (Listed count))
-Runs told unread unread_now file old new before now Empty = WhenReady (task_told told file) (λ task. Answers (is_built task) task old new before now Empty)
+Runs told unread unread_now file old new before now (Listed count) = WhenReady (task_told told file) (λ task. Answers (has_few_skeletons task) task old new before now (Listed count))
+Runs told unread unread_now file old new before now Empty = WhenReady (task_told told file) (λ task. Answers (has_few_skeletons task) task old new before now Empty)
 Runs told unread unread_now file old new before now Usage = ⊥
 Runs told unread unread_now file old new before now (BadTask fault) = WhenFaulty (task_told told file) (λ first. fault ≡ first) × (new ≡ old)
 Runs told unread unread_now file old new before now (ReadFault name) = (IsRead told file name × Rose (unread name) (unread_now name)) × (new ≡ old)
-Runs told unread unread_now file old new before now WriteFault = WhenReady (task_told told file) (λ task. Answers (is_built task) task old new before now WriteFault) × Rose before now
+Runs told unread unread_now file old new before now WriteFault = WhenReady (task_told told file) (λ task. Answers (has_few_skeletons task) task old new before now WriteFault) × Rose before now
 Runs told unread unread_now file old new before now OutOfMemory = new ≡ old
-Runs told unread unread_now file old new before now NotYet = WhenReady (task_told told file) (λ task. is_built task ≡ false) × (new ≡ old)
+Runs told unread unread_now file old new before now TooMany = WhenReady (task_told told file) (λ task. has_few_skeletons task ≡ false) × (new ≡ old)
 
 -- what a run of words does, beside its end
 abbrev pub RunsWords : Files → (List ℕ → ℕ) → (List ℕ → ℕ) → Option (List ℕ) → Option (List ℕ) → Option (List ℕ) → ℕ → ℕ → End → Type 0

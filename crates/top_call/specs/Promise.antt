@@ -7,9 +7,9 @@ use Rattle.task_read.specs.Told.{Told, untold, faulty, ready}
 use Rattle.task_read.specs.Task.{Files, IsRead, task_told}
 use Rattle.task_read.specs.declared.fault.TaskFault.{TaskFault}
 use Rattle.top_call.specs.Command.{command}
-use Rattle.top_call.specs.Form.{is_built}
+use Rattle.top_call.specs.Size.{has_few_skeletons}
 use Rattle.top_call.specs.declared.end.End.{End}
-use Rattle.top_call.specs.declared.end.End.TheVariants.{Listed, Empty, Usage, BadTask, ReadFault, WriteFault, OutOfMemory, NotYet}
+use Rattle.top_call.specs.declared.end.End.TheVariants.{Listed, Empty, Usage, BadTask, ReadFault, WriteFault, OutOfMemory, TooMany}
 
 -- the task that the words ask for, as the folder tells it; nothing is told where the words aren't understood
 abbrev pub asked_file : Files → Option (List ℕ) → Told TaskParts TaskFault
@@ -40,7 +40,7 @@ UnlessReadFault (BadTask fault) P = P
 UnlessReadFault (ReadFault file) P = Unit {0}
 UnlessReadFault WriteFault P = P
 UnlessReadFault OutOfMemory P = P
-UnlessReadFault NotYet P = P
+UnlessReadFault TooMany P = P
 
 -- the ends at which nothing was written to the output
 abbrev pub IsUnwritten : End → Type 0
@@ -51,7 +51,7 @@ IsUnwritten (BadTask fault) = Unit {0}
 IsUnwritten (ReadFault file) = Unit {0}
 IsUnwritten WriteFault = ⊥
 IsUnwritten OutOfMemory = ⊥
-IsUnwritten NotYet = Unit {0}
+IsUnwritten TooMany = Unit {0}
 
 -- a fact of the task, where one is told
 abbrev pub IfReady : Told TaskParts TaskFault → (TaskParts → Type 0) → Type 0
@@ -59,17 +59,17 @@ IfReady untold P = Unit {0}
 IfReady (faulty fault) P = Unit {0}
 IfReady (ready task) P = P task
 
--- something is wrong with what is told, or it is a task that isn't of the form that is built
+-- something is wrong with what is told, or it is a task of too many skeletons
 abbrev pub IsRefused : Told TaskParts TaskFault → Type 0
 IsRefused untold = ⊥
 IsRefused (faulty fault) = Unit {0}
-IsRefused (ready task) = is_built task ≡ false
+IsRefused (ready task) = has_few_skeletons task ≡ false
 
--- the end of a run that refuses what is told, unless memory ran out: the first thing that is wrong with it, or that its form isn't built
+-- the end of a run that refuses what is told, unless memory ran out: the first thing that is wrong with it, or that it has too many skeletons
 abbrev pub RefusedAs : Told TaskParts TaskFault → End → Type 0
 RefusedAs untold end = Unit {0}
 RefusedAs (faulty fault) end = (end ≡ BadTask fault) ⊎ (end ≡ OutOfMemory)
-RefusedAs (ready task) end = is_built task ≡ false → (end ≡ NotYet) ⊎ (end ≡ OutOfMemory)
+RefusedAs (ready task) end = has_few_skeletons task ≡ false → (end ≡ TooMany) ⊎ (end ≡ OutOfMemory)
 
 -- the end of a run that answers the task, unless memory ran out: the number of its answers, or that there are none
 abbrev pub AnswersTask : TaskParts → End → Type 0
@@ -80,4 +80,4 @@ AnswersTask task (BadTask fault) = ⊥
 AnswersTask task (ReadFault file) = ⊥
 AnswersTask task WriteFault = ⊥
 AnswersTask task OutOfMemory = Unit {0}
-AnswersTask task NotYet = ⊥
+AnswersTask task TooMany = ⊥

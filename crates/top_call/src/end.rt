@@ -14,13 +14,13 @@ pub enum End {
     Usage,
     /// This is the first thing that is wrong with the task.
     BadTask(TaskFault),
+    /// The task has more than 100,000 skeletons.
+    TooMany,
     /// This file couldn't be read.
     ReadFault { file: Bytes },
     /// The text couldn't be written whole.
     WriteFault,
     OutOfMemory,
-    /// The task has more skeletons than are gone through so far.
-    NotYet,
 }
 
 impl End {
@@ -35,10 +35,10 @@ impl End {
             End::Empty => 1,
             End::Usage => 2,
             End::BadTask(_) => 3,
+            End::TooMany => 4,
             End::ReadFault { .. } => 6,
             End::WriteFault => 7,
             End::OutOfMemory => 8,
-            End::NotYet => 20,
         }
     }
 }

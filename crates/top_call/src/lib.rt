@@ -4,7 +4,6 @@
 mod command;
 mod end;
 mod fault_line;
-mod form;
 mod line;
 mod listing;
 mod piece;

@@ -57,9 +57,9 @@ pub fn write_line<E: Sink>(err: &mut E, end: &End) -> Result<(), WriteFault>
         End::Listed { .. } | End::Empty => write_all(err, b""),
         End::Usage => write_all(err, b"scythe: the words are not understood\n"),
         End::BadTask(fault) => write_bad_task(err, fault),
+        End::TooMany => write_all(err, b"scythe: more than 100000 skeletons\n"),
         End::ReadFault { file } => write_unread(err, file.as_slice()),
         End::WriteFault => write_all(err, b"scythe: cannot write\n"),
         End::OutOfMemory => write_all(err, b"scythe: out of memory\n"),
-        End::NotYet => write_all(err, b"scythe: not built yet\n"),
     }
 }

@@ -1,15 +1,16 @@
-ghost use Rattle.std.specs.Prelude.{◌≡◌, true};
-ghost use Rattle.top_call.specs.Form.{is_built};
+ghost use Rattle.std.specs.Prelude.{◌≡◌};
+ghost use Rattle.query_core.specs.Grammar.{skeletons};
+ghost use Rattle.skeleton_graph.specs.Nodes.{trees_of};
+ghost use Rattle.top_call.specs.Size.{has_few_skeletons};
 ghost use Rattle.top_call.specs.Listing.{Answers, Prints, end_of};
 
 use crate::end::End;
-use crate::form::is_built;
 use io_edge::{Sink, WriteFault, write_all};
-use plain_search::plain;
+use plain_search::plain_over;
+use skeleton_graph::{Graph, GraphFault, build};
 use sql_print::text;
 use std::alloc::Global;
 use table_core::Task;
-use value_core::OutOfMemory;
 
 // The end of a run that wrote the text of so many answers.
 fn end_of(count: usize) -> End
@@ -24,12 +25,12 @@ fn end_of(count: usize) -> End
     }
 }
 
-// Lists the answers of a task and writes its text.
-fn list<K: Sink>(alloc: Global, task: &Task, out: &mut K) -> End
-    requires { is_built task.now ≡ true }
+// Lists the answers of a task over the graph of its skeletons and writes its text.
+fn list<K: Sink>(alloc: Global, task: &Task, graph: &Graph, out: &mut K) -> End
+    requires { trees_of graph.now.nodes ≡ skeletons task.now }
     ensures { Prints task.now (K.written out.old) (K.written out.new) (K.faults out.old) (K.faults out.new) result }
 {
-    let Ok(answers) = plain(alloc, task) else {
+    let Ok(answers) = plain_over(alloc, task, graph) else {
         return End::OutOfMemory;
     };
     let Ok(text) = text(alloc, task, answers.as_slice()) else {
@@ -41,13 +42,13 @@ fn list<K: Sink>(alloc: Global, task: &Task, out: &mut K) -> End
     }
 }
 
-/// Lists the answers of a task and writes its text, where it is of the form that is built.
+/// Lists the answers of a task and writes its text, where it has few enough skeletons.
 pub fn answer<K: Sink>(alloc: Global, task: &Task, out: &mut K) -> End
-    ensures { Answers (is_built task.now) task.now (K.written out.old) (K.written out.new) (K.faults out.old) (K.faults out.new) result }
+    ensures { Answers (has_few_skeletons task.now) task.now (K.written out.old) (K.written out.new) (K.faults out.old) (K.faults out.new) result }
 {
-    match is_built(alloc, task) {
-        Ok(true) => list(alloc, task, out),
-        Ok(false) => End::NotYet,
-        Err(OutOfMemory) => End::OutOfMemory,
+    match build(alloc, task) {
+        Ok(graph) => list(alloc, task, &graph, out),
+        Err(GraphFault::TooMany { .. }) => End::TooMany,
+        Err(GraphFault::OutOfMemory) => End::OutOfMemory,
     }
 }

@@ -6,11 +6,11 @@ ghost use Rattle.sql_print.specs.Text.{text};
 ghost use Rattle.task_read.specs.Told.{WhenReady, WhenFaulty};
 ghost use Rattle.task_read.specs.declared.fault.TaskFault.{TaskFault as Fault};
 ghost use Rattle.top_call.specs.Command.{command};
-ghost use Rattle.top_call.specs.Form.{is_built};
+ghost use Rattle.top_call.specs.Size.{has_few_skeletons};
 ghost use Rattle.top_call.specs.Line.{line};
 ghost use Rattle.top_call.specs.Listing.{Runs, RunsWords};
 ghost use Rattle.top_call.specs.Promise.{asked, IsReadIn, NoneUnread, UnlessReadFault, IsUnwritten, IfReady, IsRefused, RefusedAs, AnswersTask};
-ghost use Rattle.top_call.specs.declared.end.End.TheVariants.{Listed, Empty, Usage, BadTask, ReadFault, WriteFault, NotYet};
+ghost use Rattle.top_call.specs.declared.end.End.TheVariants.{Listed, Empty, Usage, BadTask, ReadFault, WriteFault, TooMany};
 
 use crate::command::command;
 use crate::end::End;
@@ -76,16 +76,16 @@ pub fn scythe<R: Threads + Sync, F: Folder, K: Sink, E: Sink, G: Gate + Sync>(
     // When each other end comes.
     ensures usage { (result ≡ Usage) ↔ (command words.now ≡ None) }
     ensures bad_task { (fault : Fault) → result ≡ BadTask fault → WhenFaulty (asked (F.told folder.old) words.now) (λ first. fault ≡ first) }
-    ensures not_yet { result ≡ NotYet → WhenReady (asked (F.told folder.old) words.now) (λ task. is_built task ≡ false) }
+    ensures too_many { result ≡ TooMany → WhenReady (asked (F.told folder.old) words.now) (λ task. has_few_skeletons task ≡ false) }
     ensures read { (file : List ℕ) → result ≡ ReadFault file → IsReadIn (F.told folder.old) words.now file × Rose (F.faults folder.old file) (F.faults folder.new file) }
     ensures write { result ≡ WriteFault → Rose (K.faults out.old) (K.faults out.new) }
-    ensures write_last { result ≡ WriteFault → WhenReady (asked (F.told folder.old) words.now) (λ task. is_built task ≡ true) }
+    ensures write_last { result ≡ WriteFault → WhenReady (asked (F.told folder.old) words.now) (λ task. has_few_skeletons task ≡ true) }
 
     // At every end but `ReadFault`, also where a write failed, no read had failed.
     ensures still { UnlessReadFault result ((file : List ℕ) → F.faults folder.new file ≡ F.faults folder.old file) }
 
     // Where no read failed, a task is answered unless a write failed or memory ran out, and what is wrong is told.
-    ensures complete { NoneUnread (F.told folder.old) (F.faults folder.old) (F.faults folder.new) words.now → ¬ Rose (K.faults out.old) (K.faults out.new) → IfReady (asked (F.told folder.old) words.now) (λ task. is_built task ≡ true → AnswersTask task result) }
+    ensures complete { NoneUnread (F.told folder.old) (F.faults folder.old) (F.faults folder.new) words.now → ¬ Rose (K.faults out.old) (K.faults out.new) → IfReady (asked (F.told folder.old) words.now) (λ task. has_few_skeletons task ≡ true → AnswersTask task result) }
     ensures refused { NoneUnread (F.told folder.old) (F.faults folder.old) (F.faults folder.new) words.now → RefusedAs (asked (F.told folder.old) words.now) result }
 
     // What was written.

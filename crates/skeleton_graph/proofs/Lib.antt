@@ -1,0 +1,11 @@
+pub mod BoundLaws
+pub mod ChainLaws
+pub mod GraphLaws
+pub mod LevelLaws
+pub mod LinkLaws
+pub mod ListLaws
+pub mod OrderLaws
+pub mod PlacedLaws
+pub mod RangeLaws
+pub mod SimLaws
+pub mod TreeLaws

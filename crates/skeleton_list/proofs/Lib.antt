@@ -1,3 +1,0 @@
-pub mod LevelLaws
-pub mod ListLaws
-pub mod RangeLaws

@@ -1,4 +1,0 @@
-use Rattle.skeleton_list.proofs.levels.+levels_up_to.Given as goal
-
-abbrev pub decreases-levels_up_to : goal.decreases-levels_up_to
-decreases-levels_up_to l = l.ops
