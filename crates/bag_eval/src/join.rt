@@ -1,6 +1,6 @@
 ghost use Rattle.std.specs.Prelude.{◌≡◌, ◌∷◌, ◌++◌, [], IfOk, OnOk, filter};
 ghost use Rattle.predicate_core.specs.Truth.{keeps};
-ghost use Rattle.query_core.specs.Joins.{pairs_with, crossed, kept_pairs, joined, or_padded, left_joined};
+ghost use Rattle.query_core.specs.Joins.{pairs_with, crossed, pairs_and_padded, crossed_and_padded, kept_pairs, joined, or_padded, left_joined};
 
 use crate::cells::{padded, pair_of};
 use predicate_core::{Pred, keeps};
@@ -35,6 +35,23 @@ pub fn cross_rows(
     let mut out = Items::new(alloc);
     for left in lefts {
         push_pairs(alloc, &mut out, left.cells(), rights)?;
+    }
+    Ok(out)
+}
+
+/// Each left row with each right row, and behind a left row's pairs the row itself padded with so many NULLs.
+pub fn cross_and_pad_rows(
+    alloc: Global,
+    width: usize,
+    lefts: &[Tuple],
+    rights: &[Tuple],
+) -> Result<Items<Tuple>, OutOfMemory>
+    ensures { IfOk result (λ out. out ≡ crossed_and_padded width lefts.now rights.now) }
+{
+    let mut out = Items::new(alloc);
+    for left in lefts {
+        push_pairs(alloc, &mut out, left.cells(), rights)?;
+        out.push(padded(alloc, left.cells(), width)?)?;
     }
     Ok(out)
 }

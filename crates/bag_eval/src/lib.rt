@@ -20,7 +20,7 @@ mod values;
 pub use eval::Eval;
 pub use filter::{keep_rows, keeps_all_rows};
 pub use group::group_tuples;
-pub use join::{cross_rows, join_pairs, left_join_pairs};
+pub use join::{cross_and_pad_rows, cross_rows, join_pairs, left_join_pairs};
 pub use output::gives_rows;
 pub use select::{first_rows, has_double_selected, select_rows};
 pub use standard::{Standard, standard_form};

@@ -17,6 +17,14 @@ pairs_with rights l = map (λ r. l ++ r) rights
 abbrev pub crossed : List Row → List Row → List Row
 crossed lefts rights = flat_map (pairs_with rights) lefts
 
+-- the pairs of a left row, and behind them the row padded with so many NULLs
+abbrev pub pairs_and_padded : ℕ → List Row → Row → List Row
+pairs_and_padded width rights l = pairs_with rights l ++ (l ++ replicate width Null) ∷ []
+
+-- those of each left row: what a left join chooses from, where the right rows have so many columns
+abbrev pub crossed_and_padded : ℕ → List Row → List Row → List Row
+crossed_and_padded width lefts rights = flat_map (pairs_and_padded width rights) lefts
+
 -- the pairs of a left row that the predicate keeps
 abbrev pub kept_pairs : List Value → Pred → List Row → Row → List Row
 kept_pairs constants p rights l = list_filter (keeps constants p) (pairs_with rights l)

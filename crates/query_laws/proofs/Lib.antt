@@ -2,6 +2,7 @@ pub mod AlikeLaws
 pub mod AnswerLaws
 pub mod AscendingLists
 pub mod AtomLaws
+pub mod FilledLaws
 pub mod FillingLaws
 pub mod FirstCopyLaws
 pub mod GroupKeyLaws

@@ -1,12 +1,14 @@
-//! Laws of the definitions of queries: of skeletons, of membership, of keys, of the rows of groups, and of the standard form.
+//! Laws of the definitions of queries: of skeletons, of membership, of keys, of the rows of groups, of the standard form, and of standard fillings.
 #![tactic(auto)]
 
+mod filled_laws;
 mod key_laws;
 mod member_laws;
 mod row_laws;
 mod skeleton_laws;
 mod standard_laws;
 
+pub use filled_laws::fillings_are_by_parts;
 pub use key_laws::{
     answers_ascend, ascending_keeps_elements, key_order_is_total, keys_are_apart, queries_are_once,
 };

@@ -1,0 +1,4 @@
+pub mod Choices
+pub mod Offers
+pub mod Sites
+pub mod View

@@ -1,0 +1,21 @@
+-- Candidate rows with choices, and the fillings that they are.
+use Rattle.std.specs.Prelude.{List, [], ◌∷◌, ◌++◌, map, Option, Some, None}
+use Rattle.value_core.specs.declared.value.ColType.{ColType}
+use Rattle.predicate_core.specs.declared.pred.Pred.{Pred}
+use Rattle.table_core.specs.Rows.{Row}
+use Rattle.bit_rows.specs.Masked.{masked}
+use Rattle.query_core.specs.Filled.{Filled}
+use Rattle.fill_core.specs.declared.choice.Choice.{Choice}
+
+-- the element, where there is one
+abbrev pub as_list : {A : Type 0} → Option A → List A
+as_list None = []
+as_list (Some x) = x ∷ []
+
+-- the filling of a choice: its predicate behind the parts', and the candidates that it keeps
+abbrev pub filled_by : List ColType → List Pred → List Row → Choice → Filled
+filled_by types preds candidates c = record { types = types; preds = preds ++ as_list c.pred; rows = masked c.bits candidates }
+
+-- the fillings of some choices
+abbrev pub filled_by_all : List ColType → List Pred → List Row → List Choice → List Filled
+filled_by_all types preds candidates choices = map (filled_by types preds candidates) choices

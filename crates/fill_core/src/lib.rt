@@ -1,0 +1,17 @@
+//! Skeletons filled from the inside out: the standard fillings of a skeleton from those of its parts.
+#![tactic(auto)]
+
+mod bits;
+mod choice;
+mod fill;
+mod offer;
+mod receiver;
+mod row;
+mod site;
+
+pub use choice::{Choice, choices};
+pub use fill::{fill, site_of};
+pub use offer::Offer;
+pub use receiver::Receiver;
+pub use row::{Entry, Row};
+pub use site::{Binary, Site, Unary};
