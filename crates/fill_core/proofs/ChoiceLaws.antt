@@ -1,7 +1,7 @@
 -- The first predicates of classes are the standard ones.
-use Rattle.std.proofs.Common.{◌≡◌, ℕ, zero, suc, ◌+◌, Bool, true, false, not, ◌&&◌, ◌==◌, cond, List, [], ◌∷◌, ◌++◌, map, Option, Some, None, refl, sym, ap, ◌∙◌, arith, inl, inr, eq-eqb, length, get_or, ◌<◌, ◌≤◌}
+use Rattle.std.proofs.Common.{◌≡◌, ℕ, zero, suc, ◌+◌, Bool, true, false, not, ◌&&◌, ◌==◌, cond, List, [], ◌∷◌, ◌++◌, map, Option, Some, None, refl, sym, ap, subst, ◌∙◌, arith, inl, inr, eq-eqb, length, get_or, ◌<◌, ◌≤◌}
 use Rattle.std.specs.Prelude.{filter, find, slice_get, unwrap_or}
-use Rattle.std.specs.List.{flat_map, position_or_len, enumerate_from}
+use Rattle.std.specs.List.{position_or_len, enumerate_from}
 use Rattle.std.proofs.lemmas.Bool.{cases_Bool, false≢true, eqb-true}
 use Rattle.std.proofs.lemmas.List.{length-map}
 use Rattle.std.proofs.lemmas.List.Filters.{length-filter_both}
@@ -24,7 +24,9 @@ use Rattle.bit_classes.specs.Classes.{class_of, stands_first, classes_of}
 use Rattle.bit_classes.specs.Laws.{kept_vector}
 use Rattle.bit_classes.specs.Vectors.{vectors}
 use Rattle.bit_classes.proofs.PredLaws.{vectors_of_preds}
-use Rattle.hole_choices.specs.Choices.{choice, choices_of, numbered_choice, class_choice}
+use Rattle.table_core.specs.declared.task.TaskParts.{TaskParts}
+use Rattle.fill_core.specs.Choices.{chosen, class_choice, hole_choices}
+use Rattle.fill_core.specs.declared.choice.Choice.{Choice}
 use mathlib.Core.Bool.{beq}
 
 beq_is : (a b : Bool) → beq a b ≡ same_bool a b
@@ -118,33 +120,31 @@ stands_is constants candidates preds n p numbered there =
 
 -- the choices of what is left of a list
 choices_from : (constants : List Value) (candidates : List Row) (preds left : List Pred) (n : ℕ) → Numbered preds → ((k : ℕ) → slice_get left k ≡ slice_get preds (n + k))
-    → flat_map (class_choice preds) (map class_of (filter (stands_first (map (kept_vector constants candidates) preds)) (enumerate_from n (map (kept_vector constants candidates) left))))
-    ≡ map (choice preds) (filter (is_first_alike constants candidates preds) left)
+    → map (class_choice preds) (map class_of (filter (stands_first (map (kept_vector constants candidates) preds)) (enumerate_from n (map (kept_vector constants candidates) left))))
+    ≡ map (chosen constants candidates) (filter (is_first_alike constants candidates preds) left)
 choices_from constants candidates preds [] n numbered suffix = refl
 choices_from constants candidates preds (p ∷ left) n numbered suffix =
     here (is_first_alike constants candidates preds p) refl
     (choices_from constants candidates preds left (n + 1) numbered (λ k. suffix (suc k) ∙ ap (slice_get preds) (omega arith)))
   where
-    vs : List (List Bool)
-    vs = map (kept_vector constants candidates) preds
-
     there : slice_get preds n ≡ Some p
     there = ap (slice_get preds) (omega arith) ∙ sym (suffix 0)
 
     here : (b : Bool) → is_first_alike constants candidates preds p ≡ b
-        → flat_map (class_choice preds) (map class_of (filter (stands_first (map (kept_vector constants candidates) preds)) (enumerate_from (n + 1) (map (kept_vector constants candidates) left)))) ≡ map (choice preds) (filter (is_first_alike constants candidates preds) left)
-        → flat_map (class_choice preds) (map class_of (filter (stands_first (map (kept_vector constants candidates) preds)) (enumerate_from n (map (kept_vector constants candidates) (p ∷ left))))) ≡ map (choice preds) (filter (is_first_alike constants candidates preds) (p ∷ left))
-    here true is rest = rw (stands_is constants candidates preds n p numbered there, is, there, numbered n p there) (ap (λ t. (record { pred = p; number = n }) ∷ t) rest)
+        → map (class_choice preds) (map class_of (filter (stands_first (map (kept_vector constants candidates) preds)) (enumerate_from (n + 1) (map (kept_vector constants candidates) left)))) ≡ map (chosen constants candidates) (filter (is_first_alike constants candidates preds) left)
+        → map (class_choice preds) (map class_of (filter (stands_first (map (kept_vector constants candidates) preds)) (enumerate_from n (map (kept_vector constants candidates) (p ∷ left))))) ≡ map (chosen constants candidates) (filter (is_first_alike constants candidates preds) (p ∷ left))
+    here true is rest = rw (stands_is constants candidates preds n p numbered there, is, there) (ap (λ t. chosen constants candidates p ∷ t) rest)
     here false is rest = rw (stands_is constants candidates preds n p numbered there, is) rest
 
--- the choices of the classes of the predicates over columns of these types are the standard predicates
+-- the choices of the classes of the predicates over columns of these types are those of the standard predicates
 pub choices_are : (constants : List Value) (candidates : List Row) (types : List ColType) (bound width : ℕ) (rows : List (List Bool)) (found : List Class)
     → width ≡ length candidates → rows ≡ map (λ a. kept_vector constants candidates (One a)) (atom_list types constants) → found ≡ classes_of (vectors width rows bound)
-    → flat_map (class_choice (pred_list (atom_list types constants) bound)) found ≡ choices_of constants candidates (pred_list (atom_list types constants) bound)
+    → map (class_choice (pred_list (atom_list types constants) bound)) found
+    ≡ map (chosen constants candidates) (filter (is_first_alike constants candidates (pred_list (atom_list types constants) bound)) (pred_list (atom_list types constants) bound))
 choices_are constants candidates types bound width rows found is_width is_rows is_found =
     let preds = pred_list (atom_list types constants) bound in
     let all : vectors width rows bound ≡ map (kept_vector constants candidates) preds = rw (is_width, is_rows) (sym (vectors_of_preds constants (atom_list types constants) bound candidates)) in
-    ap (flat_map (class_choice preds)) (is_found ∙ ap classes_of all)
+    ap (map (class_choice preds)) (is_found ∙ ap classes_of all)
     ∙ choices_from constants candidates preds preds 0 (numbered_by_place types constants bound) (λ k. ap (slice_get preds) (omega arith))
 
 -- each vector of kept rows has as many places as there are rows
@@ -172,3 +172,10 @@ classes_are_few constants candidates atoms bound =
 
 pub not_past : (limit found same all : ℕ) → limit < found → limit ≡ all → found ≡ same → same ≤ all → ⊥
 not_past limit found same all past is equal few = omega arith
+
+-- by a task's own constants and bound
+pub are_hole_choices : (task : TaskParts) (types : List ColType) (candidates : List Row) (constants : List Value) (bound : ℕ) (cs : List Choice) → constants ≡ task.constants → bound ≡ task.atoms
+    → cs ≡ map (chosen constants candidates) (filter (is_first_alike constants candidates (pred_list (atom_list types constants) bound)) (pred_list (atom_list types constants) bound)) → cs ≡ hole_choices task types candidates
+are_hole_choices task types candidates constants bound cs is_constants is_bound e =
+    subst (λ b. cs ≡ map (chosen task.constants candidates) (filter (is_first_alike task.constants candidates (pred_list (atom_list types task.constants) b)) (pred_list (atom_list types task.constants) b))) is_bound
+    (subst (λ k. cs ≡ map (chosen k candidates) (filter (is_first_alike k candidates (pred_list (atom_list types k) bound)) (pred_list (atom_list types k) bound))) is_constants e)

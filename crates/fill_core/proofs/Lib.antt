@@ -1,1 +1,4 @@
 pub mod ChoiceLaws
+pub mod MaskLaws
+pub mod OfferLaws
+pub mod SiteLaws

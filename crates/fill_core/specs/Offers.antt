@@ -1,5 +1,5 @@
--- Candidate rows with choices, and the fillings that they are.
-use Rattle.std.specs.Prelude.{List, [], ◌∷◌, ◌++◌, map, Option, Some, None}
+-- Candidate rows with choices, the fillings that they are, and what is gathered of them.
+use Rattle.std.specs.Prelude.{◌≡◌, List, [], ◌∷◌, ◌++◌, map, flat_map, Option, Some, None}
 use Rattle.value_core.specs.declared.value.ColType.{ColType}
 use Rattle.predicate_core.specs.declared.pred.Pred.{Pred}
 use Rattle.table_core.specs.Rows.{Row}
@@ -19,3 +19,7 @@ filled_by types preds candidates c = record { types = types; preds = preds ++ as
 -- the fillings of some choices
 abbrev pub filled_by_all : List ColType → List Pred → List Row → List Choice → List Filled
 filled_by_all types preds candidates choices = map (filled_by types preds candidates) choices
+
+-- a store holds what it held and, behind it, what is gathered of some fillings
+abbrev pub Gathered : {Store Item : Type 0} → (Store → List Item) → (Filled → List Item) → Store → Store → List Filled → Type 0
+Gathered held gives before after fillings = held after ≡ held before ++ flat_map gives fillings

@@ -1,4 +1,4 @@
-ghost use Rattle.std.specs.Prelude.{◌≡◌, ◌≤◌, ◌+◌, ◌*◌, ◌++◌, ◌∷◌, [], length, map, take, drop, not, IfOk, OnOk, Some, slice_get, if◌then◌else◌};
+ghost use Rattle.std.specs.Prelude.{◌≡◌, ◌≤◌, ◌+◌, ◌*◌, ◌++◌, ◌∷◌, [], All, length, map, take, drop, not, IfOk, OnOk, if◌then◌else◌};
 ghost use Rattle.std.specs.List.{list_any};
 ghost use Rattle.bit_rows.specs.Masked.{masked};
 ghost use Rattle.fill_core.specs.Choices.{with_alone, left_choice};
@@ -26,6 +26,7 @@ fn push_kept(
 }
 
 /// The rows at whose places a bit is set.
+
 pub fn masked_rows(
     alloc: Global,
     bits: &BitRow,
@@ -34,13 +35,14 @@ pub fn masked_rows(
     ensures { IfOk result (λ out. out ≡ masked bits.now rows.now) }
 {
     let mut out = Items::new(alloc);
-    for (i, row) in rows.iter().enumerate() {
-        push_kept(alloc, &mut out, row, bits.bit(i) == Some(true))?;
+    for i in 0..rows.len() {
+        push_kept(alloc, &mut out, &rows[i], bits.bit(i).unwrap_or(false))?;
     }
     Ok(out)
 }
 
 // Appends the bits of so many pairs from a place on, and behind them whether none is set.
+#[tactic(auto, using(crate::proofs::MaskLaws::take_bit, crate::proofs::MaskLaws::none_more))]
 fn push_left(
     out: &mut Vec<bool>,
     bits: &BitRow,
@@ -50,17 +52,18 @@ fn push_left(
     requires { from + rights ≤ length bits.now }
     ensures { OnOk result (out.new.items ≡ out.old.items ++ (take rights (drop from bits.now) ++ not (list_any (λ b. b) (take rights (drop from bits.now))) ∷ [])) }
 {
+    let _len = bits.len();
     let mut alone = true;
-    for i in from..from + rights {
-        let kept = bits.bit(i) == Some(true);
+    for k in 0..rights {
+        let kept = bits.bit(from + k).unwrap_or(false);
         alone = alone && !kept;
         out.push(kept)?;
     }
     Ok(out.push(alone)?)
 }
 
-/// The bits of the pairs of so many left rows, each with so many right rows, and behind each left row's whether it is alone.
-pub fn with_alone(
+// The bits of the pairs of so many left rows, each with so many right rows, and behind each left row's whether it is alone.
+fn with_alone(
     alloc: Global,
     lefts: usize,
     rights: usize,
@@ -69,11 +72,30 @@ pub fn with_alone(
     requires { length bits.now ≡ lefts * rights }
     ensures { IfOk result (λ out. out ≡ with_alone lefts rights bits.now) }
 {
+    let _len = bits.len();
     let mut out = Vec::new(alloc);
     let mut from = 0;
-    for _ in 0..lefts {
+    for _left in 0..lefts {
         push_left(&mut out, bits, from, rights)?;
         from += rights;
     }
     BitRow::of(alloc, out.as_slice())
+}
+
+/// The choices of all pairs of so many left and right rows, as choices of each left row's pairs and its padded row.
+pub fn left_choices(
+    alloc: Global,
+    lefts: usize,
+    rights: usize,
+    choices: &[Choice],
+) -> Result<Vec<Choice>, OutOfMemory>
+    requires { All (λ c. length c.bits ≡ lefts * rights) choices.now }
+    ensures { IfOk result (λ out. out.items ≡ map (left_choice lefts rights) choices.now) }
+{
+    let mut out = Vec::new(alloc);
+    for choice in choices {
+        let (pred, bits) = (choice.pred, with_alone(alloc, lefts, rights, &choice.bits)?);
+        out.push(Choice { pred, bits })?;
+    }
+    Ok(out)
 }

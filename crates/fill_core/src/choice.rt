@@ -82,16 +82,14 @@ fn class_choices(
     alloc: Global,
     list: &PredList,
     found: Vec<Class>,
-) -> Result<Items<Choice>, OutOfMemory>
-    ensures { IfOk result (λ out. out ≡ map (class_choice list.now) found.items) }
+) -> Result<Vec<Choice>, OutOfMemory>
+    ensures { IfOk result (λ out. out.items ≡ map (class_choice list.now) found.items) }
 {
-    let mut out = Items::new(alloc);
+    let mut out = Vec::new(alloc);
     for class in found {
         let pred = list.at(class.number);
-        out.push(Choice {
-            pred,
-            bits: class.bits,
-        })?;
+        let bits = class.bits;
+        out.push(Choice { pred, bits })?;
     }
     Ok(out)
 }
@@ -103,8 +101,8 @@ fn first_choices(
     types: &[ColType],
     bound: u32,
     candidates: &[Tuple],
-) -> Result<Items<Choice>, OutOfMemory>
-    ensures { IfOk result (λ cs. cs ≡ map (chosen constants.now candidates.now) (filter (is_first_alike constants.now candidates.now (pred_list (atom_list types.now constants.now) bound)) (pred_list (atom_list types.now constants.now) bound))) }
+) -> Result<Vec<Choice>, OutOfMemory>
+    ensures { IfOk result (λ cs. cs.items ≡ map (chosen constants.now candidates.now) (filter (is_first_alike constants.now candidates.now (pred_list (atom_list types.now constants.now) bound)) (pred_list (atom_list types.now constants.now) bound))) }
 {
     let atoms = atoms(alloc, types, constants)?;
     if atoms.len() > MOST_NUMBERED {
@@ -127,20 +125,10 @@ pub fn choices(
     task: &Task,
     types: &[ColType],
     candidates: &[Tuple],
-) -> Result<Items<Choice>, OutOfMemory>
-    ensures { IfOk result (λ cs. cs ≡ hole_choices task.now types.now candidates.now) }
+) -> Result<Vec<Choice>, OutOfMemory>
+    ensures { IfOk result (λ cs. cs.items ≡ hole_choices task.now types.now candidates.now) }
 {
     first_choices(alloc, task.constants(), types, task.atoms(), candidates)
-}
-
-// Appends a choice, if it leaves some row out.
-fn push_dropping(out: &mut Items<Choice>, choice: Choice) -> Result<(), OutOfMemory>
-    ensures { OnOk result (out.new ≡ out.old ++ filter drops_some (choice ∷ [])) }
-{
-    if choice.drops_some() {
-        out.push(choice)?;
-    }
-    Ok(())
 }
 
 /// The choices of a filter: those of its hole that leave some row out.
@@ -149,12 +137,10 @@ pub fn filter_choices(
     task: &Task,
     types: &[ColType],
     candidates: &[Tuple],
-) -> Result<Items<Choice>, OutOfMemory>
-    ensures { IfOk result (λ cs. cs ≡ filter drops_some (hole_choices task.now types.now candidates.now)) }
+) -> Result<Vec<Choice>, OutOfMemory>
+    ensures { IfOk result (λ cs. cs.items ≡ filter drops_some (hole_choices task.now types.now candidates.now)) }
 {
-    let mut out = Items::new(alloc);
-    for choice in choices(alloc, task, types, candidates)? {
-        push_dropping(&mut out, choice)?;
-    }
-    Ok(out)
+    let mut list = choices(alloc, task, types, candidates)?;
+    list.retain(|choice| choice.drops_some());
+    Ok(list)
 }

@@ -1,16 +1,20 @@
 //! Skeletons filled from the inside out: the standard fillings of a skeleton from those of its parts.
 #![tactic(auto)]
 
+mod between;
 mod bits;
 mod choice;
-mod fill;
+mod fillings;
+mod input;
+mod keeper;
 mod offer;
+mod over;
 mod receiver;
 mod row;
 mod site;
 
 pub use choice::{Choice, choices};
-pub use fill::{fill, site_of};
+pub use fillings::{fill, site_of};
 pub use offer::Offer;
 pub use receiver::Receiver;
 pub use row::{Entry, Row};

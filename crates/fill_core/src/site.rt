@@ -1,19 +1,18 @@
-ghost use Rattle.std.specs.Prelude.{◌≡◌, ◌++◌, flat_map, All, IfOk, OnOk};
+ghost use Rattle.std.specs.Prelude.{◌≡◌, ◌∷◌, [], All, IfOk, OnOk};
 ghost use Rattle.query_core.specs.Filled.{filled_base};
-ghost use Rattle.fill_core.specs.View.{entry_filled, entries_filled};
-ghost use Rattle.fill_core.specs.Sites.{unary_filled, binary_filled, binary_with, site_filled, unary_types, binary_types, site_types};
+ghost use Rattle.fill_core.specs.Offers.{Gathered};
+ghost use Rattle.fill_core.specs.Sites.{site_filled, site_types, unary_types, binary_types};
 
-use crate::bits::with_alone;
-use crate::choice::{Choice, choices, filter_choices};
-use crate::offer::Offer;
+use crate::between::{Between, Sides};
+use crate::offer::Whole;
+use crate::over::Over;
 use crate::receiver::Receiver;
-use crate::row::{Entry, Row};
-use bag_eval::{cross_and_pad_rows, cross_rows, group_tuples, unite_rows};
-use predicate_core::Pred;
+use crate::row::Row;
+use crate::input::input_rows;
 use query_core::{Agg, Pairing, Uniting, group_types, input_types};
 use sqlite_items::Items;
 use std::alloc::Global;
-use table_core::{Task, Tuple};
+use table_core::Task;
 use value_core::{ColType, OutOfMemory, concatenated, copied};
 
 /// An operator over one part.
@@ -38,255 +37,98 @@ pub enum Site {
     Between(Binary, Row, Row),
 }
 
-// An operator over one part, with the types of its columns and of its part's.
-#[derive(Drop)]
-struct Over<'a> {
-    task: &'a Task,
-    op: &'a Unary,
-    types: &'a [ColType],
-    child: &'a [ColType],
+// The types of an operator's columns, by its part's.
+fn unary_types(
+    alloc: Global,
+    op: &Unary,
+    child: &[ColType],
+) -> Result<Items<ColType>, OutOfMemory>
+    ensures { IfOk result (λ types. types ≡ unary_types op.now child.now) }
+{
+    match op {
+        Unary::Filter => copied(alloc, child),
+        Unary::Group(keys, agg) => group_types(alloc, child, keys.as_slice(), agg),
+    }
 }
 
-// An operator over two parts, with the types of its columns and of its parts'.
-#[derive(Drop)]
-struct Between<'a> {
-    task: &'a Task,
+// The types of an operator's columns, by its parts'.
+fn binary_types(
+    alloc: Global,
     op: Binary,
-    types: &'a [ColType],
-    left: &'a [ColType],
-    right: &'a [ColType],
-}
-
-// A filling whose node has no predicate: it keeps all of its rows.
-#[derive(Drop)]
-struct Whole<'a> {
-    types: &'a [ColType],
-    preds: &'a [Pred],
-    rows: &'a [Tuple],
-}
-
-impl Whole<'_> {
-    ghost use Rattle.std.specs.Prelude.{OnOk};
-    ghost use Rattle.fill_core.specs.Offers.{filling};
-
-    // Hands it to a receiver.
-    fn hand<R: Receiver>(
-        &self,
-        alloc: Global,
-        receiver: &R,
-        store: &mut R::Store,
-    ) -> Result<(), OutOfMemory>
-        requires typed { R.typed receiver.now self.now.types.now }
-        requires accepts { R.accepts receiver.now (filling self.now.types.now self.now.preds.now self.now.rows.now) }
-        ensures { OnOk result (R.held receiver.now store.new ≡ R.held receiver.now store.old ++ R.gives receiver.now (filling self.now.types.now self.now.preds.now self.now.rows.now)) }
-    {
-        let every = [Choice::every(alloc, self.rows.len())?];
-        let offer = Offer {
-            types: self.types,
-            preds: self.preds,
-            candidates: self.rows,
-            choices: &every,
-        };
-        receiver.take(alloc, &offer, store)
+    left: &[ColType],
+    right: &[ColType],
+) -> Result<Items<ColType>, OutOfMemory>
+    ensures { IfOk result (λ types. types ≡ binary_types op left.now right.now) }
+{
+    match op {
+        Binary::Pair(_) => concatenated(alloc, left, right),
+        Binary::Unite(_) => copied(alloc, left),
     }
 }
 
-impl Over<'_> {
-    ghost use Rattle.std.specs.Prelude.{OnOk};
-    ghost use Rattle.query_core.specs.Filled.{filled_filters, filled_groups};
-
-    // Hands over the filters over one filling.
-    fn hand_filters<R: Receiver>(
-        &self,
-        alloc: Global,
-        child: &Entry,
-        receiver: &R,
-        store: &mut R::Store,
-    ) -> Result<(), OutOfMemory>
-        requires same { self.now.types.now ≡ self.now.child.now }
-        requires typed { R.typed receiver.now self.now.types.now }
-        requires accepts { All (R.accepts receiver.now) (filled_filters self.now.task.now (entry_filled self.now.child.now child.now)) }
-        ensures { OnOk result (R.held receiver.now store.new ≡ R.held receiver.now store.old ++ flat_map (R.gives receiver.now) (filled_filters self.now.task.now (entry_filled self.now.child.now child.now))) }
-    {
-        let rows = child.rows.as_slice();
-        let choices = filter_choices(alloc, self.task, self.child, rows)?;
-        let offer = Offer {
-            types: self.types,
-            preds: child.preds.as_slice(),
-            candidates: rows,
-            choices: choices.as_slice(),
-        };
-        receiver.take(alloc, &offer, store)
-    }
-
-    // Hands over what the operator makes of one filling.
-    fn step<R: Receiver>(
-        &self,
-        alloc: Global,
-        child: &Entry,
-        receiver: &R,
-        store: &mut R::Store,
-    ) -> Result<(), OutOfMemory>
-        requires same { self.now.types.now ≡ unary_types self.now.op.now self.now.child.now }
-        requires typed { R.typed receiver.now self.now.types.now }
-        requires accepts { All (R.accepts receiver.now) (unary_filled self.now.task.now self.now.op.now (entry_filled self.now.child.now child.now)) }
-        ensures { OnOk result (R.held receiver.now store.new ≡ R.held receiver.now store.old ++ flat_map (R.gives receiver.now) (unary_filled self.now.task.now self.now.op.now (entry_filled self.now.child.now child.now))) }
-    {
-        let (preds, rows) = (child.preds.as_slice(), child.rows.as_slice());
-        match self.op {
-            Unary::Filter => self.hand_filters(alloc, child, receiver, store),
-            Unary::Group(keys, agg) => match group_tuples(alloc, keys.as_slice(), agg, rows)? {
-                None => Ok(()),
-                Some(groups) => {
-                    let (types, rows) = (self.types, groups.as_slice());
-                    Whole { types, preds, rows }.hand(alloc, receiver, store)
-                }
-            },
-        }
-    }
-
-    // Hands over what the operator makes of each of these fillings.
-    fn walk<R: Receiver>(
-        &self,
-        alloc: Global,
-        children: &[Entry],
-        receiver: &R,
-        store: &mut R::Store,
-    ) -> Result<(), OutOfMemory>
-        requires same { self.now.types.now ≡ unary_types self.now.op.now self.now.child.now }
-        requires typed { R.typed receiver.now self.now.types.now }
-        requires accepts { All (R.accepts receiver.now) (flat_map (unary_filled self.now.task.now self.now.op.now) (entries_filled self.now.child.now children.now)) }
-        ensures { OnOk result (R.held receiver.now store.new ≡ R.held receiver.now store.old ++ flat_map (R.gives receiver.now) (flat_map (unary_filled self.now.task.now self.now.op.now) (entries_filled self.now.child.now children.now))) }
-    {
-        for child in children {
-            self.step(alloc, child, receiver, store)?;
-        }
-        Ok(())
-    }
+// Hands an input to a receiver.
+fn hand_base<R: Receiver>(
+    alloc: Global,
+    task: &Task,
+    table: u32,
+    receiver: &R,
+    store: &mut R::Store,
+) -> Result<(), OutOfMemory>
+    requires typed { R.typed receiver.now (filled_base task.now table).types }
+    requires accepts { R.accepts receiver.now (filled_base task.now table) }
+    ensures { OnOk result (Gathered (R.held receiver.now) (R.gives receiver.now) store.old store.new (filled_base task.now table ∷ [])) }
+{
+    let types = input_types(alloc, task.inputs(), table as usize)?;
+    let rows = input_rows(alloc, task.inputs(), table as usize)?;
+    let whole = Whole {
+        types: types.as_slice(),
+        preds: &[],
+        rows: rows.as_slice(),
+    };
+    whole.hand(alloc, receiver, store)
 }
 
-impl Between<'_> {
-    ghost use Rattle.std.specs.Prelude.{OnOk};
-    ghost use Rattle.query_core.specs.Filled.{filled_pairs};
-    ghost use Rattle.query_core.specs.declared.kinds.Pairing.TheVariants as pairing;
-
-    // Hands over the joins of two fillings.
-    fn hand_joins<R: Receiver>(
-        &self,
-        alloc: Global,
-        parts: &Parts<'_>,
-        receiver: &R,
-        store: &mut R::Store,
-    ) -> Result<(), OutOfMemory>
-        requires same { self.now.types.now ≡ self.now.left.now ++ self.now.right.now }
-        requires typed { R.typed receiver.now self.now.types.now }
-        requires accepts { All (R.accepts receiver.now) (filled_pairs self.now.task.now pairing.Join (entry_filled self.now.left.now parts.now.left.now) (entry_filled self.now.right.now parts.now.right.now)) }
-        ensures { OnOk result (R.held receiver.now store.new ≡ R.held receiver.now store.old ++ flat_map (R.gives receiver.now) (filled_pairs self.now.task.now pairing.Join (entry_filled self.now.left.now parts.now.left.now) (entry_filled self.now.right.now parts.now.right.now))) }
+impl Site {
+    /// The types of its columns.
+    pub fn types(&self, alloc: Global, task: &Task) -> Result<Items<ColType>, OutOfMemory>
+        ensures { IfOk result (λ types. types ≡ site_types task.now self.now) }
     {
-        let preds = parts.preds(alloc)?;
-        let pairs = parts.crossed(alloc)?;
-        let choices = choices(alloc, self.task, self.types, pairs.as_slice())?;
-        let offer = Offer {
-            types: self.types,
-            preds: preds.as_slice(),
-            candidates: pairs.as_slice(),
-            choices: choices.as_slice(),
-        };
-        receiver.take(alloc, &offer, store)
-    }
-
-    // Hands over the left joins of two fillings.
-    fn hand_left_joins<R: Receiver>(
-        &self,
-        alloc: Global,
-        parts: &Parts<'_>,
-        receiver: &R,
-        store: &mut R::Store,
-    ) -> Result<(), OutOfMemory>
-        requires same { self.now.types.now ≡ self.now.left.now ++ self.now.right.now }
-        requires typed { R.typed receiver.now self.now.types.now }
-        requires accepts { All (R.accepts receiver.now) (filled_pairs self.now.task.now pairing.Left (entry_filled self.now.left.now parts.now.left.now) (entry_filled self.now.right.now parts.now.right.now)) }
-        ensures { OnOk result (R.held receiver.now store.new ≡ R.held receiver.now store.old ++ flat_map (R.gives receiver.now) (filled_pairs self.now.task.now pairing.Left (entry_filled self.now.left.now parts.now.left.now) (entry_filled self.now.right.now parts.now.right.now))) }
-    {
-        let preds = parts.preds(alloc)?;
-        let pairs = parts.crossed(alloc)?;
-        let choices = choices(alloc, self.task, self.types, pairs.as_slice())?;
-        let choices = parts.with_alone(alloc, choices.as_slice())?;
-        let candidates = parts.padded(alloc, self.right.len())?;
-        let offer = Offer {
-            types: self.types,
-            preds: preds.as_slice(),
-            candidates: candidates.as_slice(),
-            choices: choices.as_slice(),
-        };
-        receiver.take(alloc, &offer, store)
-    }
-
-    // Hands over what the operator makes of two fillings.
-    fn step<R: Receiver>(
-        &self,
-        alloc: Global,
-        parts: &Parts<'_>,
-        receiver: &R,
-        store: &mut R::Store,
-    ) -> Result<(), OutOfMemory>
-        requires same { self.now.types.now ≡ binary_types self.now.op self.now.left.now self.now.right.now }
-        requires typed { R.typed receiver.now self.now.types.now }
-        requires accepts { All (R.accepts receiver.now) (binary_filled self.now.task.now self.now.op (entry_filled self.now.left.now parts.now.left.now) (entry_filled self.now.right.now parts.now.right.now)) }
-        ensures { OnOk result (R.held receiver.now store.new ≡ R.held receiver.now store.old ++ flat_map (R.gives receiver.now) (binary_filled self.now.task.now self.now.op (entry_filled self.now.left.now parts.now.left.now) (entry_filled self.now.right.now parts.now.right.now))) }
-    {
-        match self.op {
-            Binary::Pair(Pairing::Join) => self.hand_joins(alloc, parts, receiver, store),
-            Binary::Pair(Pairing::Left) => self.hand_left_joins(alloc, parts, receiver, store),
-            Binary::Unite(kind) => {
-                let (preds, rows) = (parts.preds(alloc)?, parts.united(alloc, kind)?);
-                let whole = Whole {
-                    types: self.types,
-                    preds: preds.as_slice(),
-                    rows: rows.as_slice(),
-                };
-                whole.hand(alloc, receiver, store)
+        match self {
+            Site::Base(table) => input_types(alloc, task.inputs(), *table as usize),
+            Site::Over(op, child) => unary_types(alloc, op, child.types.as_slice()),
+            Site::Between(op, a, b) => {
+                binary_types(alloc, *op, a.types.as_slice(), b.types.as_slice())
             }
         }
     }
 
-    // Hands over what the operator makes of a left filling with each of these right ones.
-    fn walk_rights<R: Receiver>(
+    /// Hands all of its fillings to a receiver, in order.
+    pub fn walk<R: Receiver>(
         &self,
         alloc: Global,
-        side: &Side<'_>,
+        task: &Task,
         receiver: &R,
         store: &mut R::Store,
     ) -> Result<(), OutOfMemory>
-        requires same { self.now.types.now ≡ binary_types self.now.op self.now.left.now self.now.right.now }
-        requires typed { R.typed receiver.now self.now.types.now }
-        requires accepts { All (R.accepts receiver.now) (binary_with self.now.task.now self.now.op (entries_filled self.now.right.now side.now.rights.now) (entry_filled self.now.left.now side.now.left.now)) }
-        ensures { OnOk result (R.held receiver.now store.new ≡ R.held receiver.now store.old ++ flat_map (R.gives receiver.now) (binary_with self.now.task.now self.now.op (entries_filled self.now.right.now side.now.rights.now) (entry_filled self.now.left.now side.now.left.now))) }
+        requires typed { R.typed receiver.now (site_types task.now self.now) }
+        requires accepts { All (R.accepts receiver.now) (site_filled task.now self.now) }
+        ensures { OnOk result (Gathered (R.held receiver.now) (R.gives receiver.now) store.old store.new (site_filled task.now self.now)) }
     {
-        for right in side.rights {
-            let parts = Parts { left: side.left, right };
-            self.step(alloc, &parts, receiver, store)?;
+        let types = self.types(alloc, task)?;
+        let types = types.as_slice();
+        match self {
+            Site::Base(table) => hand_base(alloc, task, *table, receiver, store),
+            Site::Over(op, row) => {
+                let child = row.types.as_slice();
+                let over = Over { task, op, types, child };
+                over.walk(alloc, row.entries.as_slice(), receiver, store)
+            }
+            Site::Between(op, a, b) => {
+                let (op, left, right) = (*op, a.types.as_slice(), b.types.as_slice());
+                let between = Between { task, op, types, left, right };
+                let (lefts, rights) = (a.entries.as_slice(), b.entries.as_slice());
+                between.walk(alloc, &Sides { lefts, rights }, receiver, store)
+            }
         }
-        Ok(())
-    }
-
-    // Hands over what the operator makes of each left filling of one row with each right one of another.
-    fn walk<R: Receiver>(
-        &self,
-        alloc: Global,
-        sides: &Sides<'_>,
-        receiver: &R,
-        store: &mut R::Store,
-    ) -> Result<(), OutOfMemory>
-        requires same { self.now.types.now ≡ binary_types self.now.op self.now.left.now self.now.right.now }
-        requires typed { R.typed receiver.now self.now.types.now }
-        requires accepts { All (R.accepts receiver.now) (flat_map (binary_with self.now.task.now self.now.op (entries_filled self.now.right.now sides.now.rights.now)) (entries_filled self.now.left.now sides.now.lefts.now)) }
-        ensures { OnOk result (R.held receiver.now store.new ≡ R.held receiver.now store.old ++ flat_map (R.gives receiver.now) (flat_map (binary_with self.now.task.now self.now.op (entries_filled self.now.right.now sides.now.rights.now)) (entries_filled self.now.left.now sides.now.lefts.now))) }
-    {
-        for left in sides.lefts {
-            let side = Side { left, rights: sides.rights };
-            self.walk_rights(alloc, &side, receiver, store)?;
-        }
-        Ok(())
     }
 }

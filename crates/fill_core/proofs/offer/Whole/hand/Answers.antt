@@ -1,0 +1,17 @@
+use Rattle.std.proofs.Common.{◌≡◌, ap, ◌∙◌, ◌∷◌, [], List}
+use Rattle.std.proofs.lemmas.Result.{on_ok_weaker}
+use Rattle.fill_core.specs.Offers.{filled_by_all}
+use Rattle.fill_core.proofs.OfferLaws.{whole_is, all_of_one, accepted, gathered}
+use Rattle.fill_core.proofs.offer.Whole.hand.Goals as goal
+
+pub take-requires-clause-accepts : goal.take-requires-clause-accepts
+take-requires-clause-accepts g c =
+    let w = c.args.self.now in
+    let same = ap (λ ch. filled_by_all w.types.now w.preds.now w.rows.now (ch ∷ [])) c.in_ok-every.ensures ∙ whole_is w.types.now w.preds.now w.rows.now in
+    accepted (g.R.Receiver.accepts c.args.receiver.now) _ _ same (all_of_one (g.R.Receiver.accepts c.args.receiver.now) _ c.requires.accepts)
+
+pub returns : goal.returns
+returns g c =
+    let w = c.args.self.now in
+    let same = ap (λ ch. filled_by_all w.types.now w.preds.now w.rows.now (ch ∷ [])) c.in_ok-every.ensures ∙ whole_is w.types.now w.preds.now w.rows.now in
+    on_ok_weaker c.take.result (gathered (g.R.Receiver.held c.args.receiver.now) (g.R.Receiver.gives c.args.receiver.now) c.args.store.now c.take.new.store _ _ same) c.take.ensures

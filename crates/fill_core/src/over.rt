@@ -1,0 +1,100 @@
+ghost use Rattle.std.specs.Prelude.{◌≡◌, All, flat_map, OnOk};
+ghost use Rattle.query_core.specs.Filled.{filled_filters, filled_groups};
+ghost use Rattle.fill_core.specs.Offers.{Gathered};
+ghost use Rattle.fill_core.specs.Sites.{unary_filled, unary_types};
+ghost use Rattle.fill_core.specs.View.{entry_filled};
+
+use crate::choice::filter_choices;
+use crate::offer::{Offer, Whole};
+use crate::receiver::Receiver;
+use crate::row::Entry;
+use crate::site::Unary;
+use bag_eval::group_tuples;
+use query_core::Agg;
+use std::alloc::Global;
+use table_core::Task;
+use value_core::{ColType, OutOfMemory};
+
+/// An operator over one part, with the types of its columns and of its part's.
+#[derive(Drop)]
+pub struct Over<'a> {
+    pub task: &'a Task,
+    pub op: &'a Unary,
+    pub types: &'a [ColType],
+    pub child: &'a [ColType],
+}
+
+// Hands the standard filters over an entry, whose columns have these types, to a receiver.
+#[tactic(auto, using(crate::proofs::OfferLaws::filters_are, crate::proofs::OfferLaws::filters_wide))]
+fn hand_filters<R: Receiver>(
+    alloc: Global,
+    over: &Over<'_>,
+    child: &Entry,
+    receiver: &R,
+    store: &mut R::Store,
+) -> Result<(), OutOfMemory>
+    requires typed { R.typed receiver.now over.now.child.now }
+    requires accepts { All (R.accepts receiver.now) (filled_filters over.now.task.now (entry_filled over.now.child.now child.now)) }
+    ensures { OnOk result (Gathered (R.held receiver.now) (R.gives receiver.now) store.old store.new (filled_filters over.now.task.now (entry_filled over.now.child.now child.now))) }
+{
+    let rows = child.rows.as_slice();
+    let choices = filter_choices(alloc, over.task, over.child, rows)?;
+    let offer = Offer {
+        types: over.child,
+        preds: child.preds.as_slice(),
+        candidates: rows,
+        choices: choices.as_slice(),
+    };
+    receiver.take(alloc, &offer, store)
+}
+
+impl Over<'_> {
+    // Hands what the operator makes of an entry to a receiver.
+    fn hand<R: Receiver>(
+        &self,
+        alloc: Global,
+        child: &Entry,
+        receiver: &R,
+        store: &mut R::Store,
+    ) -> Result<(), OutOfMemory>
+        requires same { self.now.types.now ≡ unary_types self.now.op.now self.now.child.now }
+        requires typed { R.typed receiver.now self.now.types.now }
+        requires accepts { All (R.accepts receiver.now) (unary_filled self.now.task.now self.now.op.now self.now.child.now child.now) }
+        ensures { OnOk result (Gathered (R.held receiver.now) (R.gives receiver.now) store.old store.new (unary_filled self.now.task.now self.now.op.now self.now.child.now child.now)) }
+    {
+        match self.op {
+            Unary::Filter => hand_filters(alloc, self, child, receiver, store),
+            Unary::Group(keys, agg) => {
+                let rows = child.rows.as_slice();
+                let Some(groups) = group_tuples(alloc, keys.as_slice(), agg, rows)? else {
+                    return Ok(());
+                };
+                let whole = Whole {
+                    types: self.types,
+                    preds: child.preds.as_slice(),
+                    rows: groups.as_slice(),
+                };
+                whole.hand(alloc, receiver, store)
+            }
+        }
+    }
+
+    /// Hands what the operator makes of each of these entries to a receiver.
+    pub fn walk<R: Receiver>(
+        &self,
+        alloc: Global,
+        children: &[Entry],
+        receiver: &R,
+        store: &mut R::Store,
+    ) -> Result<(), OutOfMemory>
+        requires same { self.now.types.now ≡ unary_types self.now.op.now self.now.child.now }
+        requires typed { R.typed receiver.now self.now.types.now }
+        requires accepts { All (R.accepts receiver.now) (flat_map (unary_filled self.now.task.now self.now.op.now self.now.child.now) children.now) }
+        ensures { OnOk result (Gathered (R.held receiver.now) (R.gives receiver.now) store.old store.new (flat_map (unary_filled self.now.task.now self.now.op.now self.now.child.now) children.now)) }
+    {
+        for child in children {
+            self.hand(alloc, child, receiver, store)?;
+        }
+        Ok(())
+    }
+}
