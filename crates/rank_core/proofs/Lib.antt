@@ -1,3 +1,5 @@
 pub mod BodyLaws
+pub mod LimitLaws
 pub mod MergeLaws
+pub mod SizeLaws
 pub mod SortLaws

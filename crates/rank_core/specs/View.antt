@@ -17,7 +17,3 @@ ranked_queries list = map ranked_query list.items
 -- a list of ranked queries is in ascending order already
 abbrev pub ascends : List RankedQuery → Type 0
 ascends list = ascending comes_before list ≡ list
-
--- a key with these as the numbers of its predicates
-abbrev pub with_numbers : List ℕ → Key → Key
-with_numbers numbers k = record { unused = k.unused; cost = k.cost; skeleton = k.skeleton; numbers = numbers; picks = k.picks; distinct = k.distinct }
