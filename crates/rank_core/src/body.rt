@@ -1,8 +1,7 @@
-ghost use Rattle.std.specs.Prelude.{◌≡◌, ◌≤◌, not, count_by};
+ghost use Rattle.std.specs.Prelude.{◌≡◌, ◌<◌, ◌^◌, not, count_by};
 ghost use Rattle.std.specs.List.{list_any, range_with_len};
 ghost use Rattle.predicate_core.specs.Equal.{uses_constant};
 ghost use Rattle.query_core.specs.Rank.{tree_atoms, tree_cost, unused_constants};
-ghost use Rattle.query_core.specs.Skeleton.{operators};
 ghost use Rattle.query_core.specs.View.{tree};
 
 use predicate_core::{atom_count, has_constant};
@@ -39,10 +38,9 @@ pub fn unused_constants(task: &TaskParts, node: &Node) -> usize
         .count()
 }
 
-/// The cost of a tree of few operators.
-#[tactic(auto, using(crate::proofs::SizeLaws::costs_by_operators))]
+/// The cost of a tree, where it fits 64 bits.
 pub fn tree_cost(node: &Node) -> u64
-    requires { operators (tree node.now) ≤ 4 }
+    requires { tree_cost (tree node.now) < 2 ^ 64 }
     ensures { result ≡ tree_cost (tree node.now) }
 {
     match node {

@@ -4,7 +4,6 @@ ghost use Rattle.table_core.specs.Limits.{first_bad_part};
 ghost use Rattle.query_core.specs.View.{tree};
 ghost use Rattle.query_core.specs.Meaning.{columns, input_at};
 ghost use Rattle.query_core.specs.Grammar.{leaves};
-ghost use Rattle.query_core.specs.Skeleton.{operators};
 ghost use Rattle.query_core.specs.Membership.{each_node, keys_ascend};
 ghost use Rattle.query_core.specs.Rank.{pred_number, pred_numbers};
 ghost use Rattle.table_core.specs.Rows.{types_of};
@@ -39,6 +38,7 @@ fn input_types(task: &TaskParts, table: usize) -> ColTypes
 }
 
 /// Appends the numbers of a tree's predicates, and gives the types of its columns.
+#[tactic(auto, using(crate::proofs::SizeLaws::few_keys))]
 pub(crate) fn push_numbers(
     task: &TaskParts,
     node: &Node,
@@ -47,7 +47,7 @@ pub(crate) fn push_numbers(
     requires within { first_bad_part task.now ≡ None }
     requires leaves { length (leaves (tree node.now)) ≤ 3 }
     requires keys { each_node keys_ascend (tree node.now) ≡ true }
-    requires room { array_vec_len numbers.old + operators (tree node.now) ≤ 4 }
+    requires room { array_vec_len numbers.old + length (pred_numbers task.now (tree node.now)) ≤ 4 }
     ensures types { result ≡ columns task.now.inputs (tree node.now) }
     ensures numbers { numbers.new.items ≡ numbers.old.items ++ pred_numbers task.now (tree node.now) }
 {
