@@ -20,12 +20,13 @@ pub(crate) struct ColTypes {
 impl Model for ColTypes {
     ghost use Rattle.std.specs.Prelude.{◌≡◌, ◌≤◌, List, length, take};
     ghost use Rattle.value_core.specs.declared.value.ColType.{ColType};
+    ghost use Rattle.rank_core.specs.declared.col_types.TheConstants.{MOST_TYPES};
 
     ghost Value = { List ColType };
 
     ghost view = { λ t. take t.len t.kinds };
 
-    ghost invariant = { λ t. (t.len ≤ 18) × (length t.kinds ≡ 18) };
+    ghost invariant = { λ t. (t.len ≤ MOST_TYPES) × (length t.kinds ≡ MOST_TYPES) };
 }
 
 impl ColTypes {
@@ -41,14 +42,14 @@ impl ColTypes {
 
     pub(crate) fn as_slice(&self) -> &[ColType]
         ensures value { result.now ≡ self.now }
-        ensures fits { length result.now ≤ 18 }
+        ensures fits { length result.now ≤ MOST_TYPES }
     {
         &self.kinds[..self.len]
     }
 
     /// Appends a type. There must be room.
     pub(crate) fn push(&mut self, kind: ColType)
-        requires { length self.old < 18 }
+        requires { length self.old < MOST_TYPES }
         ensures { self.new ≡ self.old ++ kind ∷ [] }
     {
         let len = self.len;
@@ -58,7 +59,7 @@ impl ColTypes {
 
     /// Appends types. There must be room.
     pub(crate) fn append(&mut self, kinds: &[ColType])
-        requires { length self.old + length kinds.now ≤ 18 }
+        requires { length self.old + length kinds.now ≤ MOST_TYPES }
         ensures { self.new ≡ self.old ++ kinds.now }
     {
         for kind in kinds {
@@ -68,7 +69,7 @@ impl ColTypes {
 
     /// The types of a table's columns.
     pub(crate) fn of_table(table: &Table) -> ColTypes
-        requires { length table.now.columns ≤ 18 }
+        requires { length table.now.columns ≤ MOST_TYPES }
         ensures { result ≡ types_of table.now }
     {
         let mut types = ColTypes::new();

@@ -12,10 +12,13 @@ use crate::col_types::ColTypes;
 use arrayvec::ArrayVec;
 use predicate_core::Pred;
 use query_core::Node;
-use table_core::TaskParts;
+use table_core::{MOST_LEAVES, MOST_OPS, TaskParts};
 
-/// The numbers of a query's predicates, at most one for each of its operators.
-pub(crate) type HoleNumbers = ArrayVec<u64, 4>;
+/// The most predicates of a query: one for each operator.
+const MOST_PREDS: usize = MOST_OPS as usize;
+
+/// The numbers of a query's predicates.
+pub(crate) type HoleNumbers = ArrayVec<u64, MOST_PREDS>;
 
 // The number of a predicate over columns of these types.
 fn hole_number(task: &TaskParts, types: &ColTypes, pred: &Pred) -> u64
@@ -39,15 +42,11 @@ fn input_types(task: &TaskParts, table: usize) -> ColTypes
 
 /// Appends the numbers of a tree's predicates, and gives the types of its columns.
 #[tactic(auto, using(crate::proofs::SizeLaws::few_keys))]
-pub(crate) fn push_numbers(
-    task: &TaskParts,
-    node: &Node,
-    numbers: &mut HoleNumbers,
-) -> ColTypes
+pub(crate) fn push_numbers(task: &TaskParts, node: &Node, numbers: &mut HoleNumbers) -> ColTypes
     requires within { first_bad_part task.now ≡ None }
-    requires leaves { length (leaves (tree node.now)) ≤ 3 }
+    requires leaves { length (leaves (tree node.now)) ≤ MOST_LEAVES }
     requires keys { each_node keys_ascend (tree node.now) ≡ true }
-    requires room { array_vec_len numbers.old + length (pred_numbers task.now (tree node.now)) ≤ 4 }
+    requires room { array_vec_len numbers.old + length (pred_numbers task.now (tree node.now)) ≤ MOST_PREDS }
     ensures types { result ≡ columns task.now.inputs (tree node.now) }
     ensures numbers { numbers.new.items ≡ numbers.old.items ++ pred_numbers task.now (tree node.now) }
 {
@@ -60,7 +59,8 @@ pub(crate) fn push_numbers(
         }
         Node::Join(a, b, pred) | Node::Left(a, b, pred) => {
             let mut types = push_numbers(task, a.get(), numbers);
-            types.append(push_numbers(task, b.get(), numbers).as_slice());
+            let rights = push_numbers(task, b.get(), numbers);
+            types.append(rights.as_slice());
             numbers.push(hole_number(task, &types, pred));
             types
         }

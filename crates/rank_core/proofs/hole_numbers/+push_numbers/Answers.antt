@@ -12,13 +12,13 @@ pub append-requires : goal.append-requires
 append-requires t c =
     let pair = pair_of c.args.node.now c.in-Join.a c.in-Join.b c.in-Join.pred c.in-Join.is in
     let fits = parts_fit c.args.task.now c.requires.within (tree c.args.node.now) (tree c.in-Join.a) (tree c.in-Join.b) pair.0 c.in-Join.pred pair.1 c.requires.leaves c.requires.keys in
-    rw (c.push_numbers-types-in-Join.ensures.types, c.get-in-Join.ensures, c.as_slice-in-Join.ensures.value, c.push_numbers-in-Join.ensures.types, c.get-in-Join-2.ensures) fits
+    rw (c.push_numbers-types-in-Join.ensures.types, c.get-in-Join.ensures, c.as_slice-in-Join.ensures.value, c.push_numbers-rights.ensures.types, c.get-in-Join-2.ensures) fits
 
 pub push-requires-in-Join : goal.push-requires-in-Join
 push-requires-in-Join t c =
     let pair = pair_of c.args.node.now c.in-Join.a c.in-Join.b c.in-Join.pred c.in-Join.is in
     let room = room_left c.args.numbers.now.items (pred_numbers c.args.task.now (tree c.in-Join.a)) (pred_numbers c.args.task.now (tree c.in-Join.b)) _ (rw pair.1 at c.requires.room) in
-    rw (c.push_numbers-in-Join.ensures.numbers, c.push_numbers-types-in-Join.ensures.numbers, c.get-in-Join.ensures, c.get-in-Join-2.ensures) (omega arith, room)
+    rw (c.push_numbers-rights.ensures.numbers, c.push_numbers-types-in-Join.ensures.numbers, c.get-in-Join.ensures, c.get-in-Join-2.ensures) (omega arith, room)
 
 pub returns-in-Filter-clause-numbers : goal.returns-in-Filter-clause-numbers
 returns-in-Filter-clause-numbers t c =
@@ -33,4 +33,4 @@ returns-in-UnionAll-clause-numbers t c =
 pub returns-in-Join-clause-numbers : goal.returns-in-Join-clause-numbers
 returns-in-Join-clause-numbers t c =
     let pair = pair_of c.args.node.now c.in-Join.a c.in-Join.b c.in-Join.pred c.in-Join.is in
-    rw (pair.1, c.push-in-Join.ensures.items, c.push_numbers-in-Join.ensures.numbers, c.push_numbers-types-in-Join.ensures.numbers, two_behind, c.hole_number-in-Join.ensures, c.append.ensures, c.as_slice-in-Join.ensures.value, c.push_numbers-types-in-Join.ensures.types, c.push_numbers-in-Join.ensures.types, c.get-in-Join.ensures, c.get-in-Join-2.ensures) refl
+    rw (pair.1, c.push-in-Join.ensures.items, c.push_numbers-rights.ensures.numbers, c.push_numbers-types-in-Join.ensures.numbers, two_behind, c.hole_number-in-Join.ensures, c.append.ensures, c.as_slice-in-Join.ensures.value, c.push_numbers-types-in-Join.ensures.types, c.push_numbers-rights.ensures.types, c.get-in-Join.ensures, c.get-in-Join-2.ensures) refl
