@@ -1,6 +1,6 @@
--- Pairs and unions of nodes, and lists put behind one another.
-use Rattle.std.proofs.Common.{◌≡◌, ◌⊎◌, ℕ, ◌+◌, ◌<◌, ◌≤◌, inl, inr, List, [], ◌∷◌, ◌++◌, length, sym, ap, ◌∙◌, arith}
-use Rattle.std.proofs.lemmas.List.{append_assoc, length-append}
+-- The trees of pairs and unions, and lists put behind one another.
+use Rattle.std.proofs.Common.{◌≡◌, ◌⊎◌, ℕ, inl, inr, List, ◌++◌, sym, ap, ◌∙◌}
+use Rattle.std.proofs.lemmas.List.{append_assoc}
 use Rattle.predicate_core.specs.declared.pred.Pred.{Pred}
 use Rattle.query_core.specs.Tree.{Tree}
 use Rattle.query_core.specs.Tree as t
@@ -37,7 +37,3 @@ union_of node a b (inr e) = (Firsts, ap tree e ∙ tree_union a b)
 -- two lists behind a list, and one more behind them
 pub two_behind : (xs ys zs ws : List ℕ) → ((xs ++ ys) ++ zs) ++ ws ≡ xs ++ ((ys ++ zs) ++ ws)
 two_behind xs ys zs ws = simp append_assoc
-
--- where one more fits behind two lists, they leave room
-pub room_left : (xs ys zs : List ℕ) (n : ℕ) → length xs + length ((ys ++ zs) ++ n ∷ []) ≤ 4 → length ((xs ++ ys) ++ zs) < 4
-room_left xs ys zs n fits = omega (arith, length-append (ys ++ zs) (n ∷ []), length-append ys zs, length-append (xs ++ ys) zs, length-append xs ys)

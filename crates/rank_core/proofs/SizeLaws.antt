@@ -45,7 +45,7 @@ numbers_by_operators task (t.pair kind a b p) = omega (arith, length-append {A =
 numbers_by_operators task (t.group child keys agg) = omega (arith, numbers_by_operators task child)
 numbers_by_operators task (t.unite kind a b) = omega (arith, length-append {A = ℕ}, numbers_by_operators task a, numbers_by_operators task b)
 
-pub some_leaves : (tree : Tree) → 1 ≤ length (leaves tree)
+some_leaves : (tree : Tree) → 1 ≤ length (leaves tree)
 some_leaves (t.base table) = omega arith
 some_leaves (t.filter child p) = some_leaves child
 some_leaves (t.pair kind a b p) = omega (arith, length-append (leaves a) (leaves b), some_leaves a)
@@ -61,7 +61,7 @@ few_keys (i ∷ j ∷ k ∷ more) e = absurd (false≢true e)
 
 -- a tree has at most six columns for each leaf
 module _ (task : TaskParts) (within : first_bad_part task ≡ None) where
-  pub width_by_leaves : (tree : Tree) → each_node keys_ascend tree ≡ true → length (columns task.inputs tree) ≤ 6 * length (leaves tree)
+  width_by_leaves : (tree : Tree) → each_node keys_ascend tree ≡ true → length (columns task.inputs tree) ≤ 6 * length (leaves tree)
   width_by_leaves (t.base table) e = omega (arith, length-map (input_at task.inputs table).columns (λ c. c.kind), (limited task within).inputs table)
   width_by_leaves (t.filter child p) e = width_by_leaves child (and_parts (each_node keys_ascend child) true e).0
   width_by_leaves (t.pair kind a b p) e =

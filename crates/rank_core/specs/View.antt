@@ -1,7 +1,6 @@
 -- The plain data that a ranked answer stands for.
-use Rattle.std.specs.Prelude.{ℕ, List, map, ◌≡◌}
+use Rattle.std.specs.Prelude.{List, map, ◌≡◌}
 use Rattle.std.specs.Global.{Vec}
-use Rattle.query_core.specs.Rank.{Key}
 use Rattle.query_core.specs.Answers.{RankedQuery, ascending, comes_before}
 use Rattle.query_core.specs.View.{select}
 use Rattle.rank_core.specs.declared.ranked.Ranked.{Ranked}
