@@ -1,7 +1,6 @@
 -- The plain data that a ranked answer stands for.
-use Rattle.std.specs.Prelude.{ℕ, List, map, ◌≡◌}
+use Rattle.std.specs.Prelude.{List, map, ◌≡◌}
 use Rattle.std.specs.Global.{Vec}
-use Rattle.query_core.specs.Rank.{Key}
 use Rattle.query_core.specs.Answers.{RankedQuery, ascending, comes_before}
 use Rattle.query_core.specs.View.{select}
 use Rattle.rank_core.specs.declared.ranked.Ranked.{Ranked}
@@ -17,7 +16,3 @@ ranked_queries list = map ranked_query list.items
 -- a list of ranked queries is in ascending order already
 abbrev pub ascends : List RankedQuery → Type 0
 ascends list = ascending comes_before list ≡ list
-
--- a key with these as the numbers of its predicates
-abbrev pub with_numbers : List ℕ → Key → Key
-with_numbers numbers k = record { unused = k.unused; cost = k.cost; skeleton = k.skeleton; numbers = numbers; picks = k.picks; distinct = k.distinct }

@@ -1,4 +1,4 @@
-ghost use Rattle.std.specs.Prelude.{◌≡◌, ◌≤◌, ◌^◌, not, count_by, MatchOption};
+ghost use Rattle.std.specs.Prelude.{◌≡◌, ◌<◌, ◌^◌, not, count_by};
 ghost use Rattle.std.specs.List.{list_any, range_with_len};
 ghost use Rattle.predicate_core.specs.Equal.{uses_constant};
 ghost use Rattle.query_core.specs.Rank.{tree_atoms, tree_cost, unused_constants};
@@ -38,27 +38,21 @@ pub fn unused_constants(task: &TaskParts, node: &Node) -> usize
         .count()
 }
 
-/// The cost of a tree, nothing exactly where it leaves 64 bits.
-pub fn tree_cost(node: &Node) -> Option<u64>
-    ensures { MatchOption result (2 ^ 64 ≤ tree_cost (tree node.now)) (λ n. n ≡ tree_cost (tree node.now)) }
+/// The cost of a tree, where it fits 64 bits.
+pub fn tree_cost(node: &Node) -> u64
+    requires { tree_cost (tree node.now) < 2 ^ 64 }
+    ensures { result ≡ tree_cost (tree node.now) }
 {
     match node {
-        Node::Base(_) => Some(1),
-        Node::Filter(child, pred) => {
-            tree_cost(child.get())?.checked_add(1 + atom_count(pred) as u64)
-        }
+        Node::Base(_) => 1,
+        Node::Filter(child, pred) => tree_cost(child.get()) + 1 + atom_count(pred) as u64,
         Node::Join(a, b, pred) => {
-            let parts = tree_cost(a.get())?.checked_add(tree_cost(b.get())?)?;
-            parts.checked_add(2 + atom_count(pred) as u64)
+            tree_cost(a.get()) + tree_cost(b.get()) + 2 + atom_count(pred) as u64
         }
         Node::Left(a, b, pred) => {
-            let parts = tree_cost(a.get())?.checked_add(tree_cost(b.get())?)?;
-            parts.checked_add(3 + atom_count(pred) as u64)
+            tree_cost(a.get()) + tree_cost(b.get()) + 3 + atom_count(pred) as u64
         }
-        Node::Group(child, _, _) => tree_cost(child.get())?.checked_add(3),
-        Node::UnionAll(a, b) | Node::Union(a, b) => {
-            let parts = tree_cost(a.get())?.checked_add(tree_cost(b.get())?)?;
-            parts.checked_add(3)
-        }
+        Node::Group(child, _, _) => tree_cost(child.get()) + 3,
+        Node::UnionAll(a, b) | Node::Union(a, b) => tree_cost(a.get()) + tree_cost(b.get()) + 3,
     }
 }

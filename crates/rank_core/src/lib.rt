@@ -2,6 +2,8 @@
 #![tactic(auto)]
 
 mod body;
+mod col_types;
+mod hole_numbers;
 mod merging;
 mod rank_key;
 mod ranked;

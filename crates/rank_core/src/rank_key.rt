@@ -1,16 +1,15 @@
-ghost use Rattle.std.specs.Prelude.{◌≡◌, ◌+◌, ◌≤◌, ◌^◌, IfOk, IsErr, MatchOption, Ok};
-ghost use Rattle.query_core.specs.Rank.{Key, key, key_order, before, distinct_cost, tree_cost};
-ghost use Rattle.rank_core.specs.View.{with_numbers};
-ghost use Rattle.query_core.specs.View.{tree, select};
+ghost use Rattle.std.specs.Prelude.{◌≡◌, ◌≤◌, length, None};
+ghost use Rattle.query_core.specs.Membership.{query_fault};
+ghost use Rattle.query_core.specs.Rank.{Key, key, key_order, before, distinct_cost};
+ghost use Rattle.query_core.specs.View.{select};
 
 use crate::body::{tree_cost, unused_constants};
+use crate::hole_numbers::{HoleNumbers, push_numbers};
+use arrayvec::ArrayVec;
 use query_core::Query;
-use sqlite_items::Items;
-use std::alloc::Global;
 use std::cmp::Ordering;
 use std::marker::Model;
-use table_core::TaskParts;
-use value_core::{OutOfMemory, copied, held};
+use table_core::{MOST_OUTPUT_COLUMNS, Task};
 
 /// What queries are ranked by: unused constants, cost, skeleton, predicate numbers, map and distinct.
 #[derive(Debug, Drop)]
@@ -18,8 +17,8 @@ pub struct RankKey {
     unused: usize,
     cost: u64,
     skeleton: u32,
-    numbers: Items<u64>,
-    picks: Items<usize>,
+    numbers: HoleNumbers,
+    picks: ArrayVec<usize, MOST_OUTPUT_COLUMNS>,
     distinct: bool,
 }
 
@@ -28,7 +27,7 @@ impl Model for RankKey {
 
     ghost Value = { Key };
 
-    ghost view = { λ k. record { unused = k.unused; cost = k.cost; skeleton = k.skeleton; numbers = k.numbers; picks = k.picks; distinct = k.distinct } };
+    ghost view = { λ k. record { unused = k.unused; cost = k.cost; skeleton = k.skeleton; numbers = k.numbers.items; picks = k.picks.items; distinct = k.distinct } };
 }
 
 // The cost of removing duplicates.
@@ -38,35 +37,34 @@ fn distinct_cost(distinct: bool) -> u64
     if distinct { 1 } else { 0 }
 }
 
-// The cost of a query, nothing exactly where it leaves 64 bits.
-fn query_cost(query: &Query) -> Option<u64>
-    ensures { MatchOption result (2 ^ 64 ≤ tree_cost (tree query.now.body) + distinct_cost query.now.distinct) (λ n. n ≡ tree_cost (tree query.now.body) + distinct_cost query.now.distinct) }
+// The columns that a map selects, of which there are as few as an output has.
+fn few_picks(picks: &[usize]) -> ArrayVec<usize, MOST_OUTPUT_COLUMNS>
+    requires { length picks.now ≤ MOST_OUTPUT_COLUMNS }
+    ensures { result.items ≡ picks.now }
 {
-    tree_cost(&query.body)?.checked_add(distinct_cost(query.distinct))
+    let mut out = ArrayVec::new();
+    for at in picks {
+        out.push(*at);
+    }
+    out
 }
 
-/// The key of a query, with the number of its skeleton and the numbers of its predicates as they are handed in.
-///
-/// A query whose cost leaves 64 bits has more nodes than memory can hold, so it is answered as want of memory.
-pub fn key(
-    alloc: Global,
-    task: &TaskParts,
-    skeleton: u32,
-    query: &Query,
-    numbers: &[u64],
-) -> Result<RankKey, OutOfMemory>
-    ensures { IfOk result (λ k. k ≡ with_numbers numbers.now (key task.now skeleton (select query.now))) }
+/// The key of a query of the grammar, with the number of its skeleton.
+pub fn key(task: &Task, skeleton: u32, query: &Query) -> RankKey
+    requires belongs { query_fault task.now (select query.now) ≡ None }
+    ensures { result ≡ key task.now skeleton (select query.now) }
 {
-    let cost = held(query_cost(query))?;
-    let unused = unused_constants(task, &query.body);
-    Ok(RankKey {
-        unused,
-        cost,
+    let task = task.parts();
+    let mut numbers = ArrayVec::new();
+    push_numbers(task, &query.body, &mut numbers);
+    RankKey {
+        unused: unused_constants(task, &query.body),
+        cost: tree_cost(&query.body) + distinct_cost(query.distinct),
         skeleton,
-        numbers: copied(alloc, numbers)?,
-        picks: copied(alloc, query.map.as_slice())?,
+        numbers,
+        picks: few_picks(query.map.as_slice()),
         distinct: query.distinct,
-    })
+    }
 }
 
 /// The order of two keys, part by part.
