@@ -14,15 +14,15 @@ use Rattle.table_core.specs.Bag.{same_cells, count, same_rows}
 use Rattle.table_core.proofs.BagLaws.{same_cells_decides}
 use Rattle.query_core.specs.Firsts.{projected, firsts}
 use Rattle.query_core.specs.Meaning.{selected, given_rows}
-use Rattle.map_choices.specs.Fitting.{stands_in, fits_from}
-use Rattle.map_choices.specs.Laws.{GivenFits}
+use Rattle.root_search.specs.Fitting.{stands_in, fits_from}
+use Rattle.root_search.specs.Laws.{GivenFits}
 
 -- a test of all elements, and of some
-all_of : {X : Type 0} (p : X → Bool) (xs : List X) → ((x : X) → In x xs → p x ≡ true) → list_all p xs ≡ true
+pub all_of : {X : Type 0} (p : X → Bool) (xs : List X) → ((x : X) → In x xs → p x ≡ true) → list_all p xs ≡ true
 all_of p [] each = refl
 all_of p (x ∷ xs) each = rw (each x (inl refl)) (all_of p xs (λ y i. each y (inr i)))
 
-of_all : {X : Type 0} (p : X → Bool) (x : X) (xs : List X) → list_all p xs ≡ true → In x xs → p x ≡ true
+pub of_all : {X : Type 0} (p : X → Bool) (x : X) (xs : List X) → list_all p xs ≡ true → In x xs → p x ≡ true
 of_all p x [] all i = absurd i
 of_all p x (y ∷ ys) all (inl e) = ap p e ∙ (and_parts (p y) (list_all p ys) all).0
 of_all p x (y ∷ ys) all (inr i) = of_all p x ys (and_parts (p y) (list_all p ys) all).1 i
@@ -100,7 +100,7 @@ count_next : (p : Row → Bool) (row : Row) (rows : List Row) → count_by p (ro
 count_next p row rows = sum_by-cons (λ r. cond (p r) 1 0) row rows
 
 -- a row has a place exactly where it is among the rows
-counted : (x : Row) (rows : List Row) → In x rows → 1 ≤ count rows x
+pub counted : (x : Row) (rows : List Row) → In x rows → 1 ≤ count rows x
 counted x [] i = absurd i
 counted x (row ∷ rows) (inl e) =
     let here : same_cells row x ≡ true = (same_cells_decides row x).1 (sym e) in
@@ -111,7 +111,7 @@ counted x (row ∷ rows) (inr i) =
     let more = counted x rows i in
     rw next (omega (arith, more))
 
-found : (x : Row) (rows : List Row) → 1 ≤ count rows x → In x rows
+pub found : (x : Row) (rows : List Row) → 1 ≤ count rows x → In x rows
 found x [] some = absurd (omega (arith, some))
 found x (row ∷ rows) some =
     let next = count_next (λ r. same_cells r x) row rows in
@@ -121,13 +121,13 @@ found x (row ∷ rows) some =
     ]
 
 -- rows that are one bag have the same elements
-bag_counts : (xs ys : List Row) (x : Row) → same_rows xs ys ≡ true → In x (xs ++ ys) → count xs x ≡ count ys x
+pub bag_counts : (xs ys : List Row) (x : Row) → same_rows xs ys ≡ true → In x (xs ++ ys) → count xs x ≡ count ys x
 bag_counts xs ys x bag i = eqb-true _ _ (of_all (λ r. count xs r == count ys r) x (xs ++ ys) bag i)
 
-in_second : (xs ys : List Row) (x : Row) → same_rows xs ys ≡ true → In x xs → In x ys
+pub in_second : (xs ys : List Row) (x : Row) → same_rows xs ys ≡ true → In x xs → In x ys
 in_second xs ys x bag i = let e = bag_counts xs ys x bag (in_front x xs ys i) in let some = counted x xs i in found x ys (omega (arith, e, some))
 
-in_first : (xs ys : List Row) (x : Row) → same_rows xs ys ≡ true → In x ys → In x xs
+pub in_first : (xs ys : List Row) (x : Row) → same_rows xs ys ≡ true → In x ys → In x xs
 in_first xs ys x bag i = let e = bag_counts xs ys x bag (in_back x xs ys i) in let some = counted x ys i in found x xs (omega (arith, e, some))
 
 -- whether a row has at these places what another has from a place on

@@ -1,2 +1,4 @@
+pub mod BitLaws
+pub mod CountLaws
 pub mod FitLaws
 pub mod WalkLaws

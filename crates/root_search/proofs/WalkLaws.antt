@@ -9,7 +9,7 @@ use Rattle.value_core.specs.declared.value.ColType.TheVariants.{Int}
 use Rattle.table_core.specs.Rows.{Row}
 use Rattle.query_core.specs.Grammar.{places_of, maps}
 use Rattle.query_core.proofs.MapLaws.{flat_map_same, flat_map_filter}
-use Rattle.map_choices.specs.Fitting.{serves, fits_from}
+use Rattle.root_search.specs.Fitting.{serves, fits_from}
 
 -- to filter what is joined is to join what is filtered
 filter_joined : {A B : Type 0} (p : B → Bool) (g : A → List B) (xs : List A) → filter p (flat_map g xs) ≡ flat_map (λ x. filter p (g x)) xs

@@ -4,7 +4,7 @@ ghost use Rattle.value_core.specs.Value.{same, same_type};
 ghost use Rattle.predicate_core.specs.Truth.{value_at};
 ghost use Rattle.table_core.specs.Rows.{types_of};
 ghost use Rattle.query_core.specs.Grammar.{places_of, maps};
-ghost use Rattle.map_choices.specs.Fitting.{stands_in, serves, fits_from, fits};
+ghost use Rattle.root_search.specs.Fitting.{stands_in, serves, fits_from, fits};
 
 use query_core::{same_type, table_types};
 use sqlite_items::Items;

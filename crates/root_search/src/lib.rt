@@ -1,8 +1,10 @@
-//! Which body columns a query may select: the maps whose columns have the values of the output's columns.
+//! Which answers a root has: the maps by which some of its candidate rows give the output.
 #![tactic(auto)]
 
 mod fitting;
 mod laws;
+mod targets;
 
 pub use fitting::fitting_maps;
-pub use laws::what_gives_fits;
+pub use laws::{bits_give_what_rows_give, too_few_give_nothing, what_gives_fits};
+pub use targets::Target;

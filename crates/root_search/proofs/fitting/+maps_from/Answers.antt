@@ -1,5 +1,5 @@
-use Rattle.map_choices.proofs.WalkLaws.{fits_split}
-use Rattle.map_choices.proofs.fitting.+maps_from.Goals as goal
+use Rattle.root_search.proofs.WalkLaws.{fits_split}
+use Rattle.root_search.proofs.fitting.+maps_from.Goals as goal
 
 pub returns-in_ok-rests-in-len1-up : goal.returns-in_ok-rests-in-len1-up
 returns-in_ok-rests-in-len1-up t c =

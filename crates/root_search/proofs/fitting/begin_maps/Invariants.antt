@@ -1,6 +1,6 @@
 use Rattle.std.proofs.Common.{◌≡◌, ◌∷◌, ◌++◌, map, drop}
 use Rattle.std.specs.List.{flat_map}
-use Rattle.map_choices.proofs.fitting.begin_maps.Given as goal
+use Rattle.root_search.proofs.fitting.begin_maps.Given as goal
 
 abbrev pub invariant-loop-at : goal.invariant-loop-at
 invariant-loop-at l =
