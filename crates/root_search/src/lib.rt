@@ -7,4 +7,4 @@ mod targets;
 
 pub use fitting::fitting_maps;
 pub use laws::{bits_give_what_rows_give, too_few_give_nothing, what_gives_fits};
-pub use targets::Target;
+pub use targets::{Target, are_enough, bits_give};
