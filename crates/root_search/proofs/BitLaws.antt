@@ -12,13 +12,13 @@ use Rattle.table_core.specs.Rows.{Row}
 use Rattle.table_core.specs.Bag.{same_cells, count, same_rows, has_double}
 use Rattle.query_core.specs.Firsts.{projected, firsts}
 use Rattle.query_core.specs.Meaning.{selected}
-use Rattle.root_search.specs.declared.targets.Target.{Target}
+use Rattle.root_search.specs.declared.target.Target.{Target}
 use Rattle.root_search.specs.Targets.{rows_give, ones, shared, mask_of, target_of, targets, all_give, firsts_give, bits_give, are_enough}
 use Rattle.root_search.specs.Laws.{GivenByBits, NoneByFew}
 use Rattle.root_search.proofs.CountLaws.{all_counts, first_counts, all_by_counts, firsts_by_counts, both_same}
 
 -- one element more
-ones_next : (b : Bool) (bits : List Bool) → ones (b ∷ bits) ≡ cond b 1 0 + ones bits
+pub ones_next : (b : Bool) (bits : List Bool) → ones (b ∷ bits) ≡ cond b 1 0 + ones bits
 ones_next b bits = sum_by-cons (λ c. cond c 1 0) b bits
 
 -- as many of what is kept pass a test as bits are set in both what keeps and the test's mask
@@ -78,7 +78,7 @@ shared_most (true ∷ bits) (m ∷ mask) = omega (arith, shared_most bits mask, 
 shared_most (false ∷ bits) (m ∷ mask) = omega (arith, shared_most bits mask, ones_next false (and_bits bits mask), ones_next m mask)
 
 -- a test of all that follows from another
-all_follow : {X : Type 0} (p q : X → Bool) (xs : List X) → ((x : X) → p x ≡ true → q x ≡ true) → list_all p xs ≡ true → list_all q xs ≡ true
+pub all_follow : {X : Type 0} (p q : X → Bool) (xs : List X) → ((x : X) → p x ≡ true → q x ≡ true) → list_all p xs ≡ true → list_all q xs ≡ true
 all_follow p q [] each all = refl
 all_follow p q (x ∷ xs) each all = let h = and_parts (p x) (list_all p xs) all in rw (each x h.0) (all_follow p q xs each h.1)
 

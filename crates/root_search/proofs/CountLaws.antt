@@ -175,13 +175,18 @@ kept_fewer p (y ∷ ys) x (inr i) fails =
     let rest = kept_fewer p ys x i fails in
     elim (cases_Bool (p y)) [ inl kept ↦ rw kept (omega (arith, rest)) | inr out ↦ rw out (omega (arith, rest)) ]
 
-any_same : (xs : List Row) (x : Row) → list_any (λ r. same_cells r x) xs ≡ true → In x xs
+pub any_same : (xs : List Row) (x : Row) → list_any (λ r. same_cells r x) xs ≡ true → In x xs
 any_same [] x is = absurd (false≢true is)
 any_same (y ∷ ys) x is =
     elim (or_cases (same_cells y x) (list_any (λ r. same_cells r x) ys) is) [
       | inl here ↦ inl (sym ((same_cells_decides y x).0 here))
       | inr later ↦ inr (any_same ys x later)
     ]
+
+pub same_any : (xs : List Row) (x : Row) → In x xs → list_any (λ r. same_cells r x) xs ≡ true
+same_any [] x i = absurd i
+same_any (y ∷ ys) x (inl e) = rw ((same_cells_decides y x).1 (sym e)) refl
+same_any (y ∷ ys) x (inr i) = let later = same_any ys x i in elim (cases_Bool (same_cells y x)) [ inl here ↦ rw here refl | inr other ↦ rw (other, later) refl ]
 
 pub double_fewer : (xs : List Row) → has_double xs ≡ true → length (firsts xs) < length xs
 double_fewer [] is = absurd (false≢true is)

@@ -6,7 +6,7 @@ use Rattle.table_core.specs.Bag.{same_rows}
 use Rattle.query_core.specs.Meaning.{given_rows}
 use Rattle.root_search.specs.Fitting.{fits}
 use Rattle.root_search.specs.Targets.{rows_give, targets, bits_give, are_enough}
-use Rattle.root_search.specs.declared.targets.Target.{Target}
+use Rattle.root_search.specs.declared.target.Target.{Target}
 
 -- a map that gives the output's rows, with or without removal of duplicates, fits
 abbrev pub GivenFits : List Row → List Row → List ℕ → Bool → Type 0

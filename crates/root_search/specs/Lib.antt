@@ -1,3 +1,6 @@
 pub mod Fitting
 pub mod Laws
+pub mod Narrow
+pub mod Readings
 pub mod Targets
+pub mod Walk

@@ -6,7 +6,7 @@ use Rattle.table_core.specs.Bag.{same_cells, count, same_rows, has_double}
 use Rattle.query_core.specs.Firsts.{projected, firsts}
 use Rattle.query_core.specs.Meaning.{selected, given_rows}
 use Rattle.bit_rows.specs.Bits.{and_bits}
-use Rattle.root_search.specs.declared.targets.Target.{Target}
+use Rattle.root_search.specs.declared.target.Target.{Target}
 
 -- whether the rows of a body give an output by this map: they are its bag, and where duplicates are removed there are some
 abbrev pub rows_give : List ℕ → Bool → List Row → List Row → Bool

@@ -12,8 +12,8 @@ use std::alloc::Global;
 use table_core::{Table, Tuple};
 use value_core::{ColType, OutOfMemory, Value, concatenated, same};
 
-// Whether a row's value at a place is another's at another place, NULL where there is none.
-fn same_at(row: &[Value], at: usize, other: &[Value], place: usize) -> bool
+/// Whether a row's value at a place is another's at another place, NULL where there is none.
+pub(crate) fn same_at(row: &[Value], at: usize, other: &[Value], place: usize) -> bool
     ensures { result ≡ same (value_at row.now at) (value_at other.now place) }
 {
     match (row.get(at), other.get(place)) {
@@ -57,8 +57,8 @@ fn push_place(places: &mut Items<usize>, at: usize, kept: bool) -> Result<(), Ou
     Ok(())
 }
 
-// The places of the columns of a type.
-fn places_of(alloc: Global, t: ColType, types: &[ColType]) -> Result<Items<usize>, OutOfMemory>
+/// The places of the columns of a type.
+pub(crate) fn places_of(alloc: Global, t: ColType, types: &[ColType]) -> Result<Items<usize>, OutOfMemory>
     ensures { IfOk result (λ places. places ≡ places_of t 0 types.now) }
 {
     let mut places = Items::new(alloc);

@@ -1,6 +1,6 @@
 ghost use Rattle.std.specs.Prelude.{ℕ, Bool, List};
 ghost use Rattle.table_core.specs.Rows.{Row};
-ghost use Rattle.root_search.specs.declared.targets.Target.{Target};
+ghost use Rattle.root_search.specs.declared.target.Target.{Target};
 ghost use Rattle.root_search.specs.Laws.{GivenFits, GivenByBits, NoneByFew};
 
 /// The law of maps that fit: a map that gives the output is one of them.

@@ -3,8 +3,11 @@
 
 mod fitting;
 mod laws;
-mod targets;
+mod offer;
+mod reading;
+mod target;
 
 pub use fitting::fitting_maps;
 pub use laws::{bits_give_what_rows_give, too_few_give_nothing, what_gives_fits};
-pub use targets::{Target, are_enough, bits_give};
+pub use reading::{Reading, readings, targets};
+pub use target::{Target, are_enough, bits_give};

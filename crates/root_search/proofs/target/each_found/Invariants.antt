@@ -2,7 +2,7 @@ use Rattle.std.proofs.Common.{◌≡◌, ◌+◌, take, drop, ◌==◌, ◌&&◌
 use Rattle.std.specs.Prelude.{nat_le}
 use Rattle.std.specs.List.{list_all, sum_by}
 use Rattle.root_search.specs.Targets.{shared}
-use Rattle.root_search.proofs.targets.each_found.Given as goal
+use Rattle.root_search.proofs.target.each_found.Given as goal
 
 abbrev pub invariant-loop-i : goal.invariant-loop-i
 invariant-loop-i l =
