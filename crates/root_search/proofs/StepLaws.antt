@@ -2,18 +2,19 @@
 use Rattle.std.proofs.Common.{◌≡◌, refl, sym, ap, subst, ◌∙◌, ℕ, zero, suc, ◌+◌, ◌<◌, ◌≤◌, Bool, true, false, List, [], ◌∷◌, ◌++◌, length, map, take, drop, Option, Some, None, arith, inl, inr}
 use Rattle.std.specs.Prelude.{slice_get, option_map, All}
 use Rattle.std.specs.List.{flat_map, AllZip, slice_index_or}
-use Rattle.std.proofs.lemmas.List.{length-map, length-append, length-drop, length-take, take_more, take_all}
+use Rattle.std.proofs.lemmas.List.{length-map, map-id, length-append, length-drop, length-take, take_more, take_all}
 use Rattle.std.proofs.lemmas.List.Elements.{All-map, All-nil, All-cons}
 use Rattle.std.proofs.lemmas.Option.{none-some, same_Some}
 use Rattle.value_core.specs.declared.value.ColType.{ColType}
-use Rattle.table_core.specs.Rows.{Row}
+use Rattle.table_core.specs.Rows.{Row, TableData, types_of}
 use Rattle.query_core.specs.Firsts.{firsts}
-use Rattle.query_core.specs.Grammar.{places_of}
+use Rattle.query_core.specs.Grammar.{places_of, maps}
 use Rattle.root_search.specs.declared.target.Target.{Target}
 use Rattle.root_search.specs.declared.reading.Reading.{Reading}
 use Rattle.root_search.specs.declared.offer.Offer.{Offer}
 use Rattle.root_search.specs.Narrow.{narrowed}
 use Rattle.root_search.specs.Targets.{targets, are_enough}
+use Rattle.root_search.specs.Readings.{enough_of, readings}
 use Rattle.root_search.specs.Walk.{begun_target, begun_targets, cell_mask, offer_of, offers, columns_of, readings_from}
 use Rattle.root_search.proofs.NarrowLaws.{Fitting}
 use Rattle.root_search.proofs.ReadingLaws.{narrowed_next, begun_all, none_from, whole_reading, readings_next, over_offers, column_at, drop_there}
@@ -115,3 +116,24 @@ targets_more picks candidates output k ts made ms below is_t is_m is =
 
 pub targets_all : (picks : List ℕ) (candidates output : List Row) (k : ℕ) (ts : List Target) → length picks ≤ k → ts ≡ begun_targets (length picks) (take k picks) candidates output → ts ≡ targets picks candidates output
 targets_all picks candidates output k ts past is = is ∙ ap (λ ps. begun_targets (length picks) ps candidates output) (take_all k picks past) ∙ begun_all picks candidates output
+
+-- a walk begins with the empty map
+readings_whole : (types : List ColType) (candidates : List Row) (table : TableData) → readings_from types candidates table.rows [] (types_of table) ≡ readings types candidates table
+readings_whole types candidates table = ap (enough_of candidates table.rows) (map-id (maps types (types_of table)))
+
+pub start_none : (types : List ColType) (candidates : List Row) (table : TableData) (wanted : List ColType) (ts : List Target) → wanted ≡ types_of table
+    → ts ≡ begun_targets (length wanted) [] candidates table.rows → are_enough ts ≡ false → readings types candidates table ≡ []
+start_none types candidates table wanted ts is_w is_t few =
+    sym (readings_whole types candidates table)
+    ∙ ap (readings_from types candidates table.rows []) (sym is_w)
+    ∙ none_from types candidates table.rows [] (length wanted) wanted (omega arith) (ap are_enough (sym is_t) ∙ few)
+
+pub start_all : (types : List ColType) (candidates : List Row) (table : TableData) (wanted : List ColType) (picks : List ℕ) (rows : List Row) (out new : List Reading) → wanted ≡ types_of table → picks ≡ [] → rows ≡ table.rows → out ≡ []
+    → new ≡ out ++ readings_from types candidates rows picks (drop (length picks) wanted) → new ≡ readings types candidates table
+start_all types candidates table wanted picks rows out new is_w is_p is_r is_o is =
+    is
+    ∙ ap (λ xs. xs ++ readings_from types candidates rows picks (drop (length picks) wanted)) is_o
+    ∙ ap (λ ps. readings_from types candidates rows ps (drop (length ps) wanted)) is_p
+    ∙ ap (λ rs. readings_from types candidates rs [] wanted) is_r
+    ∙ ap (readings_from types candidates table.rows []) is_w
+    ∙ readings_whole types candidates table
