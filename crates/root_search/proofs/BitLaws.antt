@@ -1,11 +1,11 @@
 -- The answers of a body by bits: what some bits keep of candidate rows gives an output exactly where the counts of the bits do.
-use Rattle.std.proofs.Common.{◌≡◌, refl, sym, ap, ◌∙◌, ℕ, zero, suc, ◌+◌, ◌≤◌, Bool, true, false, not, cond, ◌&&◌, ◌||◌, ◌==◌, List, [], ◌∷◌, length, map, arith}
+use Rattle.std.proofs.Common.{◌≡◌, refl, sym, ap, ◌∙◌, ℕ, ◌+◌, ◌≤◌, Bool, true, false, cond, ◌&&◌, ◌==◌, List, [], ◌∷◌, length, map, arith}
 use Rattle.std.specs.Prelude.{count_by, nat_lt, nat_le}
 use Rattle.std.specs.List.{list_all, sum_by}
 use Rattle.std.proofs.lemmas.Bool.{and_parts, eqb-true, leb-true, le-leb, false_from_ne_true, both_ways}
 use Rattle.std.proofs.lemmas.List.{length-map}
 use Rattle.std.proofs.lemmas.List.Folds.{list_all-map}
-use Rattle.std.proofs.lemmas.List.Sums.{sum_by-cons, sum-map}
+use Rattle.std.proofs.lemmas.List.Sums.{sum_by-cons}
 use Rattle.bit_rows.specs.Bits.{and_bits}
 use Rattle.bit_rows.specs.Masked.{masked}
 use Rattle.table_core.specs.Rows.{Row}
@@ -13,9 +13,9 @@ use Rattle.table_core.specs.Bag.{same_cells, count, same_rows, has_double}
 use Rattle.query_core.specs.Firsts.{projected, firsts}
 use Rattle.query_core.specs.Meaning.{selected}
 use Rattle.root_search.specs.declared.target.Target.{Target}
-use Rattle.root_search.specs.Targets.{rows_give, ones, shared, mask_of, target_of, targets, all_give, firsts_give, bits_give, are_enough}
+use Rattle.root_search.specs.Targets.{ones, shared, mask_of, target_of, targets, all_give, firsts_give, bits_give, are_enough}
 use Rattle.root_search.specs.Laws.{GivenByBits, NoneByFew}
-use Rattle.root_search.proofs.CountLaws.{all_counts, first_counts, all_by_counts, firsts_by_counts, both_same}
+use Rattle.root_search.proofs.CountLaws.{all_counts, first_counts, all_by_counts, firsts_by_counts}
 
 -- one element more
 pub ones_next : (b : Bool) (bits : List Bool) → ones (b ∷ bits) ≡ cond b 1 0 + ones bits

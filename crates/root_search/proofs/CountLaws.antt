@@ -1,15 +1,15 @@
 -- Bags of rows by counts: which numbers say that some rows, or their first copies, are an output.
-use Rattle.std.proofs.Common.{◌≡◌, refl, sym, ap, ◌∙◌, ℕ, ◌+◌, ◌<◌, ◌≤◌, Bool, true, false, not, cond, ◌&&◌, ◌||◌, ◌==◌, List, [], ◌∷◌, ◌++◌, length, ◌⊎◌, inl, inr, arith}
-use Rattle.std.specs.Prelude.{count_by, nat_lt, nat_le, filter, if◌then◌else◌}
+use Rattle.std.proofs.Common.{◌≡◌, refl, sym, ap, ◌∙◌, ℕ, ◌+◌, ◌<◌, ◌≤◌, Bool, true, false, not, cond, ◌&&◌, ◌==◌, List, [], ◌∷◌, ◌++◌, length, inl, inr, arith}
+use Rattle.std.specs.Prelude.{count_by, nat_lt, nat_le, filter}
 use Rattle.std.specs.List.{list_all, list_any, sum_by}
-use Rattle.std.proofs.lemmas.Bool.{and_parts, and_from, cases_Bool, or_cases, eqb-true, eq-eqb, ltb-true, lt-ltb, leb-true, le-leb, not_from_true, not_from_false, false≢true}
+use Rattle.std.proofs.lemmas.Bool.{and_parts, and_from, cases_Bool, or_cases, eqb-true, eq-eqb, ltb-true, lt-ltb, leb-true, le-leb, not_from_true, false≢true}
 use Rattle.std.proofs.lemmas.List.Sums.{sum_by-cons, count_by-le-length, length-filter}
 use Rattle.predicate_core.proofs.OnceLists.{In, Once, in_append}
 use Rattle.table_core.specs.Rows.{Row}
 use Rattle.table_core.specs.Bag.{same_cells, count, same_rows, has_double}
 use Rattle.table_core.proofs.BagLaws.{same_cells_decides}
 use Rattle.query_core.specs.Firsts.{firsts}
-use Rattle.query_laws.proofs.MemberLaws.{in_front, in_back}
+use Rattle.query_laws.proofs.MemberLaws.{in_back}
 use Rattle.query_laws.proofs.FirstCopyLaws.{in_part, part_firsts, in_firsts, once_firsts, firsts_single}
 use Rattle.root_search.proofs.FitLaws.{all_of, of_all, counted, found, bag_counts, in_first, in_second}
 

@@ -1,34 +1,29 @@
 -- A walk over maps: what one column more leaves of each target, and where no reading goes on.
-use Rattle.std.proofs.Common.{◌≡◌, refl, sym, ap, ◌∙◌, ℕ, zero, suc, ◌+◌, ◌<◌, ◌≤◌, Bool, true, false, not, cond, ◌&&◌, ◌==◌, List, [], ◌∷◌, ◌++◌, length, map, take, drop, Some, None, replicate, if◌then◌else◌, arith, inl, inr}
-use Rattle.std.specs.Prelude.{filter, slice_get, option_map, nat_le}
-use Rattle.std.specs.List.{list_all, list_any, flat_map, slice_index_or}
-use Rattle.std.proofs.lemmas.Bool.{and_parts, cases_Bool, or_cases, leb-true, le-leb, false_from_ne_true, both_ways, false≢true}
+use Rattle.std.proofs.Common.{◌≡◌, refl, sym, ap, ◌∙◌, ℕ, zero, suc, ◌+◌, ◌<◌, ◌≤◌, Bool, true, false, not, cond, ◌&&◌, ◌==◌, List, [], ◌∷◌, ◌++◌, length, map, take, drop, Some, replicate, if◌then◌else◌, arith, inl, inr}
+use Rattle.std.specs.Prelude.{slice_get, option_map, nat_le}
+use Rattle.std.specs.List.{list_any, flat_map, slice_index_or}
+use Rattle.std.proofs.lemmas.Bool.{and_parts, cases_Bool, leb-true, le-leb, false_from_ne_true, both_ways}
 use Rattle.std.proofs.lemmas.List.{append_assoc, append-nil, length-append, map-append, take_more}
 use Rattle.std.proofs.lemmas.Bool.Decides.{nat_tests}
-use Rattle.std.proofs.lemmas.List.Sums.{sum_by-cons}
 use Rattle.std.proofs.lemmas.Option.{none-some, same_Some}
 use Rattle.std.proofs.lemmas.Simd.{zip2-map}
-use lib.Lanes.{zip2}
 use Rattle.value_core.specs.Value.{same}
 use Rattle.value_core.specs.declared.value.ColType.{ColType}
 use Rattle.value_core.specs.declared.value.Value.{Value}
 use Rattle.predicate_core.specs.Truth.{value_at}
-use Rattle.predicate_core.proofs.OnceLists.{In}
 use Rattle.table_core.specs.Rows.{Row}
 use Rattle.table_core.specs.Bag.{same_cells, count}
 use Rattle.query_core.specs.Firsts.{projected, firsts}
 use Rattle.query_core.specs.Grammar.{places_of, maps}
 use Rattle.query_core.proofs.MapLaws.{kept_joined, map_twice, flat_map_same, flat_map_none}
 use Rattle.query_laws.proofs.FirstCopyLaws.{firsts_new, firsts_seen}
-use Rattle.bit_rows.specs.Bits.{and_bits}
 use Rattle.root_search.specs.declared.target.Target.{Target}
 use Rattle.root_search.specs.declared.reading.Reading.{Reading}
-use Rattle.root_search.specs.declared.offer.Offer.{Offer}
-use Rattle.root_search.specs.Targets.{ones, mask_of, target_of, targets, are_enough}
+use Rattle.root_search.specs.Targets.{ones, targets, are_enough}
 use Rattle.root_search.specs.Narrow.{narrow, narrowed}
 use Rattle.root_search.specs.Readings.{reading_of, enough_of}
 use Rattle.root_search.specs.Walk.{agrees, begun_mask, begun_target, begun_targets, cell_mask, offer_of, offers, columns_of, readings_from}
-use Rattle.root_search.proofs.BitLaws.{ones_next, all_follow}
+use Rattle.root_search.proofs.BitLaws.{ones_next}
 use Rattle.root_search.proofs.CountLaws.{any_same, same_any}
 
 -- ---- first copies, one row more

@@ -1,9 +1,9 @@
 -- The steps of a walk over maps.
-use Rattle.std.proofs.Common.{◌≡◌, refl, sym, ap, subst, ◌∙◌, ℕ, zero, suc, ◌+◌, ◌<◌, ◌≤◌, Bool, true, false, List, [], ◌∷◌, ◌++◌, length, map, take, drop, Option, Some, None, arith, inl, inr}
-use Rattle.std.specs.Prelude.{slice_get, option_map, All}
-use Rattle.std.specs.List.{flat_map, AllZip, slice_index_or}
+use Rattle.std.proofs.Common.{◌≡◌, refl, sym, ap, subst, ◌∙◌, ℕ, zero, suc, ◌+◌, ◌<◌, ◌≤◌, Bool, true, false, List, [], ◌∷◌, ◌++◌, length, map, take, drop, Some, None, arith}
+use Rattle.std.specs.Prelude.{slice_get, option_map, filter, All}
+use Rattle.std.specs.List.{flat_map, slice_index_or}
 use Rattle.std.proofs.lemmas.List.{length-map, map-id, length-append, length-drop, length-take, take_more, take_all}
-use Rattle.std.proofs.lemmas.List.Elements.{All-map, All-nil, All-cons}
+use Rattle.std.proofs.lemmas.List.Elements.{All-nil, All-cons}
 use Rattle.std.proofs.lemmas.Option.{none-some, same_Some}
 use Rattle.value_core.specs.declared.value.ColType.{ColType}
 use Rattle.table_core.specs.Rows.{Row, TableData, types_of}
@@ -13,8 +13,9 @@ use Rattle.root_search.specs.declared.target.Target.{Target}
 use Rattle.root_search.specs.declared.reading.Reading.{Reading}
 use Rattle.root_search.specs.declared.offer.Offer.{Offer}
 use Rattle.root_search.specs.Narrow.{narrowed}
-use Rattle.root_search.specs.Targets.{targets, are_enough}
-use Rattle.root_search.specs.Readings.{enough_of, readings}
+use Rattle.root_search.specs.Targets.{target_of, targets, are_enough}
+use Rattle.root_search.specs.Readings.{reading_of, enough_of, readings}
+use Rattle.root_search.specs.Laws.{ReadingsFit}
 use Rattle.root_search.specs.Walk.{begun_target, begun_targets, cell_mask, offer_of, offers, columns_of, readings_from}
 use Rattle.root_search.proofs.NarrowLaws.{Fitting}
 use Rattle.root_search.proofs.ReadingLaws.{narrowed_next, begun_all, none_from, whole_reading, readings_next, over_offers, column_at, drop_there}
@@ -137,3 +138,19 @@ start_all types candidates table wanted picks rows out new is_w is_p is_r is_o i
     ∙ ap (λ rs. readings_from types candidates rs [] wanted) is_r
     ∙ ap (readings_from types candidates table.rows []) is_w
     ∙ readings_whole types candidates table
+
+-- the masks of a map's targets have the candidates' length
+masks_fit : (picks : List ℕ) (candidates output : List Row) (bits : List Bool) (rows : List Row) → length bits ≡ length candidates → All (λ t. length bits ≡ length t.mask) (map (target_of picks candidates output) rows)
+masks_fit picks candidates output bits [] long = All-nil (λ t. length bits ≡ length t.mask)
+masks_fit picks candidates output bits (row ∷ rows) long =
+    All-cons (λ t. length bits ≡ length t.mask) (target_of picks candidates output row) (map (target_of picks candidates output) rows) (long ∙ sym (length-map candidates _)) (masks_fit picks candidates output bits rows long)
+
+readings_of_fit : (candidates output : List Row) (bits : List Bool) (ms : List (List ℕ)) → length bits ≡ length candidates
+    → All (λ r. (r.targets ≡ targets r.picks candidates output) × All (λ t. length bits ≡ length t.mask) r.targets) (map (reading_of candidates output) ms)
+readings_of_fit candidates output bits [] long = All-nil (λ r. (r.targets ≡ targets r.picks candidates output) × All (λ t. length bits ≡ length t.mask) r.targets)
+readings_of_fit candidates output bits (m ∷ ms) long =
+    All-cons (λ r. (r.targets ≡ targets r.picks candidates output) × All (λ t. length bits ≡ length t.mask) r.targets) (reading_of candidates output m) (map (reading_of candidates output) ms)
+    (refl, masks_fit m candidates output bits (firsts output) long) (readings_of_fit candidates output bits ms long)
+
+pub readings_fit : (types : List ColType) (candidates : List Row) (table : TableData) (bits : List Bool) → ReadingsFit types candidates table bits
+readings_fit types candidates table bits long = readings_of_fit candidates table.rows bits (filter (λ picks. are_enough (targets picks candidates table.rows)) (maps types (types_of table))) long

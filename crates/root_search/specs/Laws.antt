@@ -1,10 +1,12 @@
 -- Laws of maps that fit, and of targets.
-use Rattle.std.specs.Prelude.{◌≡◌, ℕ, Bool, false, List, length, IsTrue}
+use Rattle.std.specs.Prelude.{◌≡◌, ℕ, Bool, false, List, length, IsTrue, All}
+use Rattle.value_core.specs.declared.value.ColType.{ColType}
 use Rattle.bit_rows.specs.Masked.{masked}
-use Rattle.table_core.specs.Rows.{Row}
+use Rattle.table_core.specs.Rows.{Row, TableData}
 use Rattle.table_core.specs.Bag.{same_rows}
 use Rattle.query_core.specs.Meaning.{given_rows}
 use Rattle.root_search.specs.Fitting.{fits}
+use Rattle.root_search.specs.Readings.{readings}
 use Rattle.root_search.specs.Targets.{rows_give, targets, bits_give, are_enough}
 use Rattle.root_search.specs.declared.target.Target.{Target}
 
@@ -20,3 +22,8 @@ GivenByBits picks distinct bits candidates output =
 -- where a target has fewer candidates than copies, no bits give the targets
 abbrev pub NoneByFew : Bool → ℕ → List Bool → List Target → Type 0
 NoneByFew distinct wanted bits targets = are_enough targets ≡ false → bits_give distinct wanted bits targets ≡ false
+
+-- each reading has the targets of its map, and their masks have the length of bits of the candidates
+abbrev pub ReadingsFit : List ColType → List Row → TableData → List Bool → Type 0
+ReadingsFit types candidates table bits =
+    length bits ≡ length candidates → All (λ r. (r.targets ≡ targets r.picks candidates table.rows) × All (λ t. length bits ≡ length t.mask) r.targets) (readings types candidates table)

@@ -1,7 +1,8 @@
 ghost use Rattle.std.specs.Prelude.{ℕ, Bool, List};
-ghost use Rattle.table_core.specs.Rows.{Row};
+ghost use Rattle.value_core.specs.declared.value.ColType.{ColType};
+ghost use Rattle.table_core.specs.Rows.{Row, TableData};
 ghost use Rattle.root_search.specs.declared.target.Target.{Target};
-ghost use Rattle.root_search.specs.Laws.{GivenFits, GivenByBits, NoneByFew};
+ghost use Rattle.root_search.specs.Laws.{GivenFits, GivenByBits, NoneByFew, ReadingsFit};
 
 /// The law of maps that fit: a map that gives the output is one of them.
 #[tactic(auto, using(crate::proofs::FitLaws::given_fits))]
@@ -19,4 +20,10 @@ pub fn bits_give_what_rows_give()
 #[tactic(auto, using(crate::proofs::BitLaws::none_by_few))]
 pub fn too_few_give_nothing()
     ensures { (distinct : Bool) (wanted : ℕ) (bits : List Bool) (targets : List Target) → NoneByFew distinct wanted bits targets }
+{}
+
+/// The law of readings: each has the targets of its map, whose masks have the length of bits of the candidates.
+#[tactic(auto, using(crate::proofs::StepLaws::readings_fit))]
+pub fn readings_have_their_targets()
+    ensures { (types : List ColType) (candidates : List Row) (table : TableData) (bits : List Bool) → ReadingsFit types candidates table bits }
 {}

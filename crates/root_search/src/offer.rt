@@ -61,7 +61,7 @@ fn cell_mask(
 ) -> Result<BitRow, OutOfMemory>
     ensures { IfOk result (λ mask. mask ≡ cell_mask candidates.now place at row.now) }
 {
-    let mut bits = Vec::new(alloc);
+    let mut bits = Vec::with_capacity(alloc, candidates.len())?;
     for candidate in candidates {
         bits.push(same_at(candidate.cells(), at, row, place))?;
     }

@@ -1,7 +1,6 @@
 use Rattle.std.proofs.Common.{◌≡◌, sym, ap, ◌∙◌, [], map, length, false, rules}
 use Rattle.query_core.specs.Firsts.{firsts}
 use Rattle.root_search.specs.Walk.{begun_target}
-use Rattle.root_search.specs.Targets.{are_enough}
 use Rattle.root_search.proofs.StepLaws.{start_none, start_all}
 use Rattle.root_search.proofs.reading.readings.Goals as goal
 

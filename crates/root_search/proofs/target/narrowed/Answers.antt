@@ -1,4 +1,3 @@
-use Rattle.std.proofs.Common.{arith}
 use Rattle.root_search.proofs.NarrowLaws.{fitting_at, fitting_below, push_more}
 use Rattle.root_search.specs.Narrow.{narrowed}
 use Rattle.root_search.proofs.target.narrowed.Goals as goal

@@ -1,4 +1,4 @@
-use Rattle.std.proofs.Common.{◌≡◌, sym, ◌∙◌, true, false, rules, arith}
+use Rattle.std.proofs.Common.{◌≡◌, sym, ◌∙◌, true, false, rules}
 use Rattle.root_search.proofs.NarrowLaws.{fitting_at, fitting_below, enough_more}
 use Rattle.root_search.specs.Narrow.{narrowed}
 use Rattle.root_search.specs.Targets.{are_enough}
