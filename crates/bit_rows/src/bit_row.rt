@@ -3,7 +3,9 @@ ghost use Rattle.std.specs.Bool.{Decides};
 ghost use Rattle.std.specs.List.{list_all};
 ghost use Rattle.bit_rows.specs.Bits.{and_bits, or_bits};
 
-use crate::words::{WORD_BITS, and_words, ones_in, ones_in_both, or_words, pack, set_and_words, set_or_words};
+use crate::words::{
+    WORD_BITS, and_words, ones_in, ones_in_both, or_words, pack, set_and_words, set_or_words,
+};
 use std::alloc::Global;
 use std::hash::{Hash, Hasher};
 use std::marker::Model;

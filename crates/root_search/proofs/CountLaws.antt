@@ -144,7 +144,7 @@ all_counts_to xs ys given =
     let parts = and_parts (length xs == length ys) (list_all (λ y. count xs y == count ys y) (firsts ys)) given in
     let each : (y : Row) → In y (firsts ys) → count xs y ≡ count ys y = λ y i. eqb-true _ _ (of_all (λ r. count xs r == count ys r) y (firsts ys) parts.1 i) in
     let whole : sum_by (count xs) (firsts ys) ≡ length xs =
-      sums_agree (count xs) (count ys) (firsts ys) each ∙ within ys ys (λ x i. i) ∙ sym (eqb-true _ _ parts.0) in
+    sums_agree (count xs) (count ys) (firsts ys) each ∙ within ys ys (λ x i. i) ∙ sym (eqb-true _ _ parts.0) in
     bag_from xs ys (λ x i. are_within xs ys x whole i) (λ y i. each y (in_firsts y ys i))
 
 pub all_by_counts : (xs ys : List Row) → same_rows xs ys ≡ all_counts (length ys) (length xs) (count xs) ys
@@ -210,8 +210,8 @@ first_counts_from xs ys given =
     let back : (y : Row) → In y ys → In y (firsts xs) = λ y i. in_first (firsts xs) ys y parts.1 i in
     and_from _ _ (and_from _ _ (lt-ltb _ _ fewer) (eq-eqb _ _ (sym (within xs ys into))))
     (all_of (λ y. nat_le 1 (count xs y) && (count ys y == 1)) (firsts ys) (λ y i.
-        let j = back y (firsts_in y ys i) in
-        and_from _ _ (le-leb _ _ (counted y xs (firsts_in y xs j))) (eq-eqb _ _ (sym (bag_firsts (firsts xs) ys parts.1 y i) ∙ one_place (firsts xs) y (once_firsts xs) j))))
+    let j = back y (firsts_in y ys i) in
+    and_from _ _ (le-leb _ _ (counted y xs (firsts_in y xs j))) (eq-eqb _ _ (sym (bag_firsts (firsts xs) ys parts.1 y i) ∙ one_place (firsts xs) y (once_firsts xs) j))))
 
 first_counts_to : (xs ys : List Row) → first_counts (length ys) (length xs) (count xs) ys ≡ true → (has_double xs && same_rows (firsts xs) ys) ≡ true
 first_counts_to xs ys given =
@@ -220,10 +220,10 @@ first_counts_to xs ys given =
     let fewer : length ys < length xs = ltb-true _ _ totals.0 in
     let whole : sum_by (count xs) (firsts ys) ≡ length xs = sym (eqb-true _ _ totals.1) in
     let each : (y : Row) → In y ys → (1 ≤ count xs y) × (count ys y ≡ 1) = λ y i.
-      let h = and_parts (nat_le 1 (count xs y)) (count ys y == 1) (of_all (λ r. nat_le 1 (count xs r) && (count ys r == 1)) y (firsts ys) parts.1 (in_firsts y ys i)) in
-      (leb-true _ _ h.0, eqb-true _ _ h.1) in
+    let h = and_parts (nat_le 1 (count xs y)) (count ys y == 1) (of_all (λ r. nat_le 1 (count xs r) && (count ys r == 1)) y (firsts ys) parts.1 (in_firsts y ys i)) in
+    (leb-true _ _ h.0, eqb-true _ _ h.1) in
     let bag : same_rows (firsts xs) ys ≡ true = bag_from (firsts xs) ys (λ x i. are_within xs ys x whole (firsts_in x xs i))
-      (λ y i. one_place (firsts xs) y (once_firsts xs) (in_firsts y xs (found y xs (each y i).0)) ∙ sym (each y i).1) in
+    (λ y i. one_place (firsts xs) y (once_firsts xs) (in_firsts y xs (found y xs (each y i).0)) ∙ sym (each y i).1) in
     let double : has_double xs ≡ true = elim (cases_Bool (has_double xs)) as (λ w. has_double xs ≡ true) [
       | inl some ↦ some
       | inr none ↦ absurd (let e = bag_length (firsts xs) ys bag in let f : length (firsts xs) ≡ length xs = ap length (firsts_single xs none) in omega (arith, e, f, fewer))

@@ -58,7 +58,11 @@ fn push_place(places: &mut Items<usize>, at: usize, kept: bool) -> Result<(), Ou
 }
 
 /// The places of the columns of a type.
-pub(crate) fn places_of(alloc: Global, t: ColType, types: &[ColType]) -> Result<Items<usize>, OutOfMemory>
+pub(crate) fn places_of(
+    alloc: Global,
+    t: ColType,
+    types: &[ColType],
+) -> Result<Items<usize>, OutOfMemory>
     ensures { IfOk result (λ places. places ≡ places_of t 0 types.now) }
 {
     let mut places = Items::new(alloc);

@@ -193,13 +193,7 @@ pub fn readings(
     if !are_enough(targets.as_slice()) {
         return Ok(out);
     }
-    let columns = columns_of(
-        alloc,
-        types,
-        candidates,
-        rows.as_slice(),
-        wanted.as_slice(),
-    )?;
+    let columns = columns_of(alloc, types, candidates, rows.as_slice(), wanted.as_slice())?;
     let walk = Walk {
         types,
         candidates,

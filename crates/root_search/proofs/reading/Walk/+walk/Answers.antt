@@ -13,11 +13,16 @@ walk-walk_each-requires t c =
     let w = c.args.self.now in
     let b = c.args.begun in
     let some : slice_get w.columns.now (length b.picks) ≡ Some c.as_slice.result.now = cc (c.in-Some.ensures, c.len.ensures, c.as_slice.ensures) in
-    let falls : 3 * (length w.wanted.now - length b.picks) + 1 < t = omega (arith, c.decreases) in
-    (falls,
-      (c.requires.columns,
-        (walk_below w.types.now w.candidates.now w.output.now w.wanted.now w.columns.now c.requires.columns b.picks c.as_slice.result.now some,
-          (c.requires.targets, walk_offers w.types.now w.candidates.now w.output.now w.wanted.now w.columns.now c.requires.columns b.picks c.as_slice.result.now some))))
+    let falls : 3 * (length w.wanted.now - length b.picks) + 1 < t = omega (arith, c.decreases) in (
+      falls,
+      (
+        c.requires.columns,
+        (
+          walk_below w.types.now w.candidates.now w.output.now w.wanted.now w.columns.now c.requires.columns b.picks c.as_slice.result.now some,
+          (c.requires.targets, walk_offers w.types.now w.candidates.now w.output.now w.wanted.now w.columns.now c.requires.columns b.picks c.as_slice.result.now some),
+        ),
+      ),
+    )
 
 pub walk-returns-in_ok-push-in-None : goal.walk-returns-in_ok-push-in-None
 walk-returns-in_ok-push-in-None t c =
@@ -48,7 +53,7 @@ walk_on-returns-then-not-stay_enough t c =
     let b = c.args.begun.now in
     let few : c.stay_enough.result ≡ false = search rules in
     let none = none_by w.types.now w.candidates.now w.output.now b.picks c.args.offer.now.at w.wanted.now c.as_slice.result.now c.as_slice-2.result.now c.requires.place
-      (c.as_slice.ensures ∙ c.requires.targets) (c.as_slice-2.ensures ∙ ap (λ o. o.masks) c.requires.offer) (sym c.stay_enough.ensures ∙ few) in
+    (c.as_slice.ensures ∙ c.requires.targets) (c.as_slice-2.ensures ∙ ap (λ o. o.masks) c.requires.offer) (sym c.stay_enough.ensures ∙ few) in
     sym (ap (λ rs. c.args.out.now ++ rs) none ∙ append-nil c.args.out.now)
 
 pub walk_on-with-requires : goal.walk_on-with-requires
@@ -67,12 +72,19 @@ walk_on-walk-requires t c =
     let longer : length next.picks ≡ length b.picks + 1 = ap length c.in_ok-next.ensures.0 ∙ length-append b.picks (o.at ∷ []) in
     let falls : 3 * (length w.wanted.now - length next.picks) + 2 < t = omega (arith, c.decreases, longer, c.requires.place) in
     let kept : narrowed c.as_slice.result.now c.as_slice-2.result.now ≡ next.targets =
-      ap (λ ts. narrowed ts c.as_slice-2.result.now) c.as_slice.ensures ∙ ap (narrowed b.targets) c.as_slice-2.ensures ∙ sym c.in_ok-next.ensures.1 in
-    let enough : c.stay_enough.result ≡ true = search rules in
-    (falls,
-      (c.requires.columns,
-        (omega (arith, longer, c.requires.place),
-          (c.in_ok-next.ensures.1
-          ∙ left_by (length w.wanted.now) b.picks o.at w.candidates.now w.output.now b.targets o.masks c.requires.targets (ap (λ p. p.masks) c.requires.offer)
-          ∙ ap (λ ps. begun_targets (length w.wanted.now) ps w.candidates.now w.output.now) (sym c.in_ok-next.ensures.0),
-            ap are_enough (sym kept) ∙ sym c.stay_enough.ensures ∙ enough))))
+    ap (λ ts. narrowed ts c.as_slice-2.result.now) c.as_slice.ensures ∙ ap (narrowed b.targets) c.as_slice-2.ensures ∙ sym c.in_ok-next.ensures.1 in
+    let enough : c.stay_enough.result ≡ true = search rules in (
+      falls,
+      (
+        c.requires.columns,
+        (
+          omega (arith, longer, c.requires.place),
+          (
+            c.in_ok-next.ensures.1
+                ∙ left_by (length w.wanted.now) b.picks o.at w.candidates.now w.output.now b.targets o.masks c.requires.targets (ap (λ p. p.masks) c.requires.offer)
+                ∙ ap (λ ps. begun_targets (length w.wanted.now) ps w.candidates.now w.output.now) (sym c.in_ok-next.ensures.0),
+            ap are_enough (sym kept) ∙ sym c.stay_enough.ensures ∙ enough,
+          ),
+        ),
+      ),
+    )
