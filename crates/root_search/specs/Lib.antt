@@ -4,3 +4,4 @@ pub mod Narrow
 pub mod Readings
 pub mod Targets
 pub mod Walk
+pub mod WalkState

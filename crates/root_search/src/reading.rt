@@ -1,10 +1,10 @@
 ghost use Rattle.std.specs.Prelude.{◌≡◌, ◌++◌, ◌∷◌, [], ◌<◌, ◌≤◌, ◌+◌, length, drop, map, replicate, true, All, IfOk, OnOk};
 ghost use Rattle.std.specs.List.{flat_map, AllZip};
-ghost use Rattle.query_core.specs.Firsts.{firsts};
 ghost use Rattle.root_search.specs.Narrow.{narrowed};
 ghost use Rattle.root_search.specs.Targets.{targets, are_enough};
 ghost use Rattle.root_search.specs.Readings.{readings};
-ghost use Rattle.root_search.specs.Walk.{begun_target, begun_targets, offer_of, columns_of, readings_from};
+ghost use Rattle.root_search.specs.Walk.{begun_target};
+ghost use Rattle.root_search.specs.WalkState.{HasItsColumns, IsOffer, targets_of, readings_of};
 
 use crate::offer::{Offer, cell_masks, columns_of, first_rows};
 use crate::target::{Target, are_enough, narrowed, stay_enough};
@@ -112,11 +112,11 @@ impl Walk<'_> {
         begun: Reading,
         out: &mut Items<Reading>,
     ) -> Result<(), OutOfMemory>
-        requires columns { self.now.columns.now ≡ columns_of self.now.types.now self.now.candidates.now (firsts self.now.output.now) 0 self.now.wanted.now }
+        requires columns { HasItsColumns self.now }
         requires place { length begun.picks ≤ length self.now.wanted.now }
-        requires targets { begun.targets ≡ begun_targets (length self.now.wanted.now) begun.picks self.now.candidates.now self.now.output.now }
+        requires targets { begun.targets ≡ targets_of self.now begun.picks }
         requires enough { are_enough begun.targets ≡ true }
-        ensures { OnOk result (out.new ≡ out.old ++ readings_from self.now.types.now self.now.candidates.now self.now.output.now begun.picks (drop (length begun.picks) self.now.wanted.now)) }
+        ensures { OnOk result (out.new ≡ out.old ++ readings_of self.now begun.picks (drop (length begun.picks) self.now.wanted.now)) }
     {
         match at(self.columns, begun.picks.len()) {
             None => Ok(out.push(begun)?),
@@ -133,11 +133,11 @@ impl Walk<'_> {
         begun: &Reading,
         out: &mut Items<Reading>,
     ) -> Result<(), OutOfMemory>
-        requires columns { self.now.columns.now ≡ columns_of self.now.types.now self.now.candidates.now (firsts self.now.output.now) 0 self.now.wanted.now }
+        requires columns { HasItsColumns self.now }
         requires place { length begun.now.picks < length self.now.wanted.now }
-        requires targets { begun.now.targets ≡ begun_targets (length self.now.wanted.now) begun.now.picks self.now.candidates.now self.now.output.now }
-        requires offers { All (λ o. o ≡ offer_of self.now.candidates.now (firsts self.now.output.now) (length begun.now.picks) o.at) offers.now }
-        ensures { OnOk result (out.new ≡ out.old ++ flat_map (λ o. readings_from self.now.types.now self.now.candidates.now self.now.output.now (begun.now.picks ++ o.at ∷ []) (drop (length begun.now.picks + 1) self.now.wanted.now)) offers.now) }
+        requires targets { begun.now.targets ≡ targets_of self.now begun.now.picks }
+        requires offers { All (IsOffer self.now (length begun.now.picks)) offers.now }
+        ensures { OnOk result (out.new ≡ out.old ++ flat_map (λ o. readings_of self.now (begun.now.picks ++ o.at ∷ []) (drop (length begun.now.picks + 1) self.now.wanted.now)) offers.now) }
     {
         for offer in offers {
             self.walk_on(alloc, offer, begun, out)?;
@@ -154,11 +154,11 @@ impl Walk<'_> {
         begun: &Reading,
         out: &mut Items<Reading>,
     ) -> Result<(), OutOfMemory>
-        requires columns { self.now.columns.now ≡ columns_of self.now.types.now self.now.candidates.now (firsts self.now.output.now) 0 self.now.wanted.now }
+        requires columns { HasItsColumns self.now }
         requires place { length begun.now.picks < length self.now.wanted.now }
-        requires targets { begun.now.targets ≡ begun_targets (length self.now.wanted.now) begun.now.picks self.now.candidates.now self.now.output.now }
-        requires offer { offer.now ≡ offer_of self.now.candidates.now (firsts self.now.output.now) (length begun.now.picks) offer.now.at }
-        ensures { OnOk result (out.new ≡ out.old ++ readings_from self.now.types.now self.now.candidates.now self.now.output.now (begun.now.picks ++ offer.now.at ∷ []) (drop (length begun.now.picks + 1) self.now.wanted.now)) }
+        requires targets { begun.now.targets ≡ targets_of self.now begun.now.picks }
+        requires offer { IsOffer self.now (length begun.now.picks) offer.now }
+        ensures { OnOk result (out.new ≡ out.old ++ readings_of self.now (begun.now.picks ++ offer.now.at ∷ []) (drop (length begun.now.picks + 1) self.now.wanted.now)) }
     {
         if !stay_enough(begun.targets.as_slice(), offer.masks.as_slice()) {
             return Ok(());
