@@ -13,7 +13,7 @@ use Rattle.table_core.specs.Bag.{same_cells, count, same_rows, has_double}
 use Rattle.query_core.specs.Firsts.{projected, firsts}
 use Rattle.query_core.specs.Meaning.{selected}
 use Rattle.root_search.specs.declared.target.Target.{Target}
-use Rattle.root_search.specs.Targets.{ones, shared, mask_of, target_of, targets, all_give, firsts_give, bits_give, are_enough}
+use Rattle.root_search.specs.Targets.{ones, shared, mask_of, target_of, targets, all_give, each_found, firsts_give, bits_give, are_enough}
 use Rattle.root_search.specs.Laws.{GivenByBits, NoneByFew}
 use Rattle.root_search.proofs.CountLaws.{all_counts, first_counts, all_by_counts, firsts_by_counts}
 
@@ -63,8 +63,8 @@ module _ (picks : List ℕ) (bits : List Bool) (candidates output : List Row) (l
       firsts_by_counts (selected picks (masked bits candidates)) output
       ∙ ap (λ n. first_counts (length output) n (count (selected picks (masked bits candidates))) output) total_is
       ∙ ap (λ f. first_counts (length output) (ones bits) f output) found_is
-      ∙ ap (λ b. (nat_lt (length output) (ones bits) && (ones bits == sum_by (λ y. shared bits (mask_of picks candidates y)) (firsts output))) && b) (sym (list_all-map (λ t. nat_le 1 (shared bits t.mask) && (t.copies == 1)) (target_of picks candidates output) (firsts output)))
-      ∙ ap (λ n. (nat_lt (length output) (ones bits) && (ones bits == n)) && list_all (λ t. nat_le 1 (shared bits t.mask) && (t.copies == 1)) (targets picks candidates output)) (sym (sum_targets (λ t. shared bits t.mask) (target_of picks candidates output) (firsts output)))
+      ∙ ap (λ b. nat_lt (length output) (ones bits) && ((ones bits == sum_by (λ y. shared bits (mask_of picks candidates y)) (firsts output)) && b)) (sym (list_all-map (λ t. nat_le 1 (shared bits t.mask) && (t.copies == 1)) (target_of picks candidates output) (firsts output)))
+      ∙ ap (λ n. nat_lt (length output) (ones bits) && ((ones bits == n) && list_all (λ t. nat_le 1 (shared bits t.mask) && (t.copies == 1)) (targets picks candidates output))) (sym (sum_targets (λ t. shared bits t.mask) (target_of picks candidates output) (firsts output)))
 
 pub given_by_bits : (picks : List ℕ) (distinct : Bool) (bits : List Bool) (candidates output : List Row) → GivenByBits picks distinct bits candidates output
 given_by_bits picks true bits candidates output long = firsts_is picks bits candidates output long
@@ -86,7 +86,8 @@ given_enough : (distinct : Bool) (wanted : ℕ) (bits : List Bool) (targets : Li
 given_enough true wanted bits targets given =
     all_follow (λ t. nat_le 1 (shared bits t.mask) && (t.copies == 1)) (λ t. nat_le t.copies (ones t.mask)) targets
     (λ t h. let parts = and_parts (nat_le 1 (shared bits t.mask)) (t.copies == 1) h in le-leb _ _ (omega (arith, leb-true _ _ parts.0, eqb-true _ _ parts.1, shared_most bits t.mask)))
-    (and_parts (nat_lt wanted (ones bits) && (ones bits == sum_by (λ t. shared bits t.mask) targets)) (list_all (λ t. nat_le 1 (shared bits t.mask) && (t.copies == 1)) targets) given).1
+    (and_parts (ones bits == sum_by (λ t. shared bits t.mask) targets) (list_all (λ t. nat_le 1 (shared bits t.mask) && (t.copies == 1)) targets)
+    (and_parts (nat_lt wanted (ones bits)) (each_found (ones bits) bits targets) given).1).1
 given_enough false wanted bits targets given =
     all_follow (λ t. shared bits t.mask == t.copies) (λ t. nat_le t.copies (ones t.mask)) targets
     (λ t h. le-leb _ _ (omega (arith, eqb-true _ _ h, shared_most bits t.mask)))

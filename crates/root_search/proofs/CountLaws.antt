@@ -200,7 +200,7 @@ double_fewer (x ∷ xs) is =
 
 -- the first copies of rows with a double are an output where more rows are than it has, each of them in it, and each of its rows once
 abbrev pub first_counts : ℕ → ℕ → (Row → ℕ) → List Row → Bool
-first_counts wanted total found ys = (nat_lt wanted total && (total == sum_by found (firsts ys))) && list_all (λ y. nat_le 1 (found y) && (count ys y == 1)) (firsts ys)
+first_counts wanted total found ys = nat_lt wanted total && ((total == sum_by found (firsts ys)) && list_all (λ y. nat_le 1 (found y) && (count ys y == 1)) (firsts ys))
 
 first_counts_from : (xs ys : List Row) → (has_double xs && same_rows (firsts xs) ys) ≡ true → first_counts (length ys) (length xs) (count xs) ys ≡ true
 first_counts_from xs ys given =
@@ -208,17 +208,18 @@ first_counts_from xs ys given =
     let fewer : length ys < length xs = omega (arith, bag_length (firsts xs) ys parts.1, double_fewer xs parts.0) in
     let into : (x : Row) → In x xs → In x ys = λ x i. in_second (firsts xs) ys x parts.1 (in_firsts x xs i) in
     let back : (y : Row) → In y ys → In y (firsts xs) = λ y i. in_first (firsts xs) ys y parts.1 i in
-    and_from _ _ (and_from _ _ (lt-ltb _ _ fewer) (eq-eqb _ _ (sym (within xs ys into))))
+    and_from _ _ (lt-ltb _ _ fewer) (and_from _ _ (eq-eqb _ _ (sym (within xs ys into)))
     (all_of (λ y. nat_le 1 (count xs y) && (count ys y == 1)) (firsts ys) (λ y i.
     let j = back y (firsts_in y ys i) in
-    and_from _ _ (le-leb _ _ (counted y xs (firsts_in y xs j))) (eq-eqb _ _ (sym (bag_firsts (firsts xs) ys parts.1 y i) ∙ one_place (firsts xs) y (once_firsts xs) j))))
+    and_from _ _ (le-leb _ _ (counted y xs (firsts_in y xs j))) (eq-eqb _ _ (sym (bag_firsts (firsts xs) ys parts.1 y i) ∙ one_place (firsts xs) y (once_firsts xs) j)))))
 
 first_counts_to : (xs ys : List Row) → first_counts (length ys) (length xs) (count xs) ys ≡ true → (has_double xs && same_rows (firsts xs) ys) ≡ true
 first_counts_to xs ys given =
-    let parts = and_parts (nat_lt (length ys) (length xs) && (length xs == sum_by (count xs) (firsts ys))) (list_all (λ y. nat_le 1 (count xs y) && (count ys y == 1)) (firsts ys)) given in
-    let totals = and_parts (nat_lt (length ys) (length xs)) (length xs == sum_by (count xs) (firsts ys)) parts.0 in
-    let fewer : length ys < length xs = ltb-true _ _ totals.0 in
-    let whole : sum_by (count xs) (firsts ys) ≡ length xs = sym (eqb-true _ _ totals.1) in
+    let each_one = list_all (λ y. nat_le 1 (count xs y) && (count ys y == 1)) (firsts ys) in
+    let more = and_parts (nat_lt (length ys) (length xs)) ((length xs == sum_by (count xs) (firsts ys)) && each_one) given in
+    let parts = and_parts (length xs == sum_by (count xs) (firsts ys)) each_one more.1 in
+    let fewer : length ys < length xs = ltb-true _ _ more.0 in
+    let whole : sum_by (count xs) (firsts ys) ≡ length xs = sym (eqb-true _ _ parts.0) in
     let each : (y : Row) → In y ys → (1 ≤ count xs y) × (count ys y ≡ 1) = λ y i.
     let h = and_parts (nat_le 1 (count xs y)) (count ys y == 1) (of_all (λ r. nat_le 1 (count xs r) && (count ys r == 1)) y (firsts ys) parts.1 (in_firsts y ys i)) in
     (leb-true _ _ h.0, eqb-true _ _ h.1) in

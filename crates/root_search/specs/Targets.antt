@@ -36,10 +36,13 @@ targets picks candidates output = map (target_of picks candidates output) (first
 abbrev pub all_give : ℕ → List Bool → List Target → Bool
 all_give wanted bits targets = (ones bits == wanted) && list_all (λ t. shared bits t.mask == t.copies) targets
 
+-- whether so many candidates are those of the targets, of each target some, and each target has one copy
+abbrev pub each_found : ℕ → List Bool → List Target → Bool
+each_found total bits targets = (total == sum_by (λ t. shared bits t.mask) targets) && list_all (λ t. nat_le 1 (shared bits t.mask) && (t.copies == 1)) targets
+
 -- whether more candidates than are wanted are kept, each of a target, of each target some, and each target has one copy
 abbrev pub firsts_give : ℕ → List Bool → List Target → Bool
-firsts_give wanted bits targets =
-    (nat_lt wanted (ones bits) && (ones bits == sum_by (λ t. shared bits t.mask) targets)) && list_all (λ t. nat_le 1 (shared bits t.mask) && (t.copies == 1)) targets
+firsts_give wanted bits targets = nat_lt wanted (ones bits) && each_found (ones bits) bits targets
 
 -- whether the candidates that some bits keep give an output of so many rows, with or without removal of duplicates
 abbrev pub bits_give : Bool → ℕ → List Bool → List Target → Bool

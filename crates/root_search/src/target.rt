@@ -1,7 +1,7 @@
-ghost use Rattle.std.specs.Prelude.{◌≡◌, ◌==◌, ◌&&◌, length, nat_le, All, IfOk};
-ghost use Rattle.std.specs.List.{list_all, sum_by, AllZip};
+ghost use Rattle.std.specs.Prelude.{◌≡◌, length, nat_le, All, IfOk};
+ghost use Rattle.std.specs.List.{AllZip};
 ghost use Rattle.root_search.specs.Narrow.{narrow, narrowed};
-ghost use Rattle.root_search.specs.Targets.{ones, shared, all_give, firsts_give, bits_give, are_enough};
+ghost use Rattle.root_search.specs.Targets.{ones, shared, all_give, each_found, firsts_give, bits_give, are_enough};
 
 use bit_rows::BitRow;
 use sqlite_items::Items;
@@ -107,7 +107,7 @@ fn all_give(wanted: usize, bits: &BitRow, targets: &[Target]) -> bool
 // Whether so many candidates are those of the targets, of each target some, and each target has one copy.
 fn each_found(total: usize, bits: &BitRow, targets: &[Target]) -> bool
     requires { All (λ t. length bits.now ≡ length t.mask) targets.now }
-    ensures { result ≡ ((total == sum_by (λ t. shared bits.now t.mask) targets.now) && list_all (λ t. nat_le 1 (shared bits.now t.mask) && (t.copies == 1)) targets.now) }
+    ensures { result ≡ each_found total bits.now targets.now }
 {
     let mut left = total;
     for i in 0..targets.len() {
