@@ -9,7 +9,7 @@ use Rattle.std.specs.Cmp.Lexicographic.{pointwise_decides}
 use Rattle.std.specs.Cmp.{booleans_Decides}
 use Rattle.std.proofs.lemmas.List.{ext_get_or, drop_more, get_or-take, get_or-drop, get_or-map, length-take, length-map, map-id}
 use Rattle.std.proofs.lemmas.List.FromFn.{fill_by_all, length-map-range_with_len, get_or-map-range_with_len, map-range_with_len_more}
-use Rattle.std.proofs.lemmas.List.Sums.{sum-map, sum_by-cons, count_by-le-length}
+use Rattle.std.proofs.lemmas.List.Sums.{sum-map, sum_by-cons, sum_by_more, sum_by_more_le, count_by-le-length}
 use Rattle.std.proofs.lemmas.Slice.Chunks.{sum_by_chunks}
 use Rattle.std.proofs.lemmas.Slice.Eq.{bytes_eq-Decides}
 use Rattle.std.proofs.lemmas.Bool.Decides.{nat_tests, Decides-eqb, Decides-like}
@@ -253,3 +253,35 @@ all_by_ones (true ∷ bits) = rw (sum_by-cons (λ b. cond b 1 0) true bits) (nex
 all_by_ones (false ∷ bits) =
     rw (sum_by-cons (λ b. cond b 1 0) false bits)
     (below_not (0 + count_by (λ b. b) bits) (suc (length bits)) (let most = count_by-le-length (λ b. b) bits in omega arith))
+
+-- ---- the ones of an AND, counted word by word
+
+ones_both_at : (a b : List ℕ) (k : ℕ) → k < length a → k < length b → get_or (zip2 (λ x y. bit_and x y) a b) k 0 ≡ bit_and (get_or a k 0) (get_or b k 0)
+ones_both_at a b k in_a in_b = get_or-zip2 (λ x y. bit_and x y) a b k 0 0 0 in_a in_b
+
+-- one word more
+pub ones_both_more : (a b : List ℕ) (k : ℕ) → length a ≡ length b → k < length a
+    → sum_by count_ones (take (k + 1) (zip2 (λ x y. bit_and x y) a b)) ≡ sum_by count_ones (take k (zip2 (λ x y. bit_and x y) a b)) + count_ones (bit_and (get_or a k 0) (get_or b k 0))
+ones_both_more a b k same below =
+    let there : k < length (zip2 (λ x y. bit_and x y) a b) = omega (arith, length-zip2 (λ x y. bit_and x y) a b same) in
+    rw (← ones_both_at a b k below (omega arith)) (sum_by_more count_ones (zip2 (λ x y. bit_and x y) a b) k 0 there)
+
+-- and the sum so far with it is within the whole sum
+pub ones_both_within : (a b : List ℕ) (k : ℕ) → length a ≡ length b → k < length a
+    → sum_by count_ones (take k (zip2 (λ x y. bit_and x y) a b)) + count_ones (bit_and (get_or a k 0) (get_or b k 0)) ≤ sum_by count_ones (zip2 (λ x y. bit_and x y) a b)
+ones_both_within a b k same below =
+    let there : k < length (zip2 (λ x y. bit_and x y) a b) = omega (arith, length-zip2 (λ x y. bit_and x y) a b same) in
+    rw (← ones_both_at a b k below (omega arith)) (sum_by_more_le count_ones (zip2 (λ x y. bit_and x y) a b) k 0 there)
+
+-- the ones of the words of an AND are those of the AND of the rows
+pub ones_and_row : (m n : ℕ) (xs ys : List ℕ) (a b : List Bool) → xs ≡ packed (unpacked m xs) → ys ≡ packed (unpacked n ys) → unpacked m xs ≡ a → unpacked n ys ≡ b → length a ≡ length b
+    → sum_by count_ones (zip2 (λ x y. bit_and x y) xs ys) ≡ count_by (λ b. b) (and_bits a b)
+ones_and_row m n xs ys a b kept_x kept_y is_a is_b same =
+    let row = and_row (length a) m n xs ys (zip2 (λ x y. bit_and x y) xs ys) a b kept_x kept_y is_a is_b same refl refl in
+    ones_row (length a) (zip2 (λ x y. bit_and x y) xs ys) (and_bits a b) row.0 row.1
+
+pub ones_and_fit : (m n : ℕ) (xs ys : List ℕ) (a b : List Bool) → xs ≡ packed (unpacked m xs) → ys ≡ packed (unpacked n ys) → unpacked m xs ≡ a → unpacked n ys ≡ b → length a ≡ length b → m < 2 ^ 64
+    → sum_by count_ones (zip2 (λ x y. bit_and x y) xs ys) < 2 ^ 64
+ones_and_fit m n xs ys a b kept_x kept_y is_a is_b same fits =
+    let row = and_row m m n xs ys (zip2 (λ x y. bit_and x y) xs ys) a b kept_x kept_y is_a is_b same (length_of m xs a is_a) refl in
+    ones_fit m (zip2 (λ x y. bit_and x y) xs ys) (and_bits a b) row.0 row.1 fits

@@ -3,7 +3,9 @@ ghost use Rattle.std.specs.Bool.{Decides};
 ghost use Rattle.std.specs.List.{list_all};
 ghost use Rattle.bit_rows.specs.Bits.{and_bits, or_bits};
 
-use crate::words::{WORD_BITS, and_words, ones_in, or_words, pack, set_and_words, set_or_words};
+use crate::words::{
+    WORD_BITS, and_words, ones_in, ones_in_both, or_words, pack, set_and_words, set_or_words,
+};
 use std::alloc::Global;
 use std::hash::{Hash, Hasher};
 use std::marker::Model;
@@ -133,6 +135,16 @@ impl BitRow {
         // The count fits, since a row has at most as many bits as a number of its length tells.
         let _len = self.len;
         ones_in(self.words.as_slice())
+    }
+
+    /// How many bits are set in both rows. It takes no memory.
+    pub fn ones_and(&self, other: &BitRow) -> usize
+        requires { length self.now ≡ length other.now }
+        ensures { result ≡ count_by (λ b. b) (and_bits self.now other.now) }
+    {
+        // The count fits, since a row has at most as many bits as a number of its length tells.
+        let _len = self.len;
+        ones_in_both(self.words.as_slice(), other.words.as_slice())
     }
 
     /// Whether each bit is set.

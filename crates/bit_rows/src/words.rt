@@ -33,6 +33,19 @@ pub fn ones_in(words: &[u64]) -> usize
     total
 }
 
+/// How many bits are set in both of two lists of words.
+pub fn ones_in_both(a: &[u64], b: &[u64]) -> usize
+    requires lengths { length a.now ≡ length b.now }
+    requires fits { sum_by count_ones (zip2 (λ x y. bit_and x y) a.now b.now) < 2 ^ 64 }
+    ensures { result ≡ sum_by count_ones (zip2 (λ x y. bit_and x y) a.now b.now) }
+{
+    let mut total = 0;
+    for k in 0..a.len() {
+        total += (a[k] & b[k]).count_ones() as usize;
+    }
+    total
+}
+
 // The word of the first bits of a row.
 #[tactic(auto, using(std::proofs::lemmas::List::take_min))]
 fn first_word(bits: &[bool]) -> u64

@@ -1,0 +1,183 @@
+-- A map that gives the output fits.
+use Rattle.std.proofs.Common.{◌≡◌, ◌≤◌, ℕ, suc, ◌+◌, ◌==◌, ◌||◌, Bool, true, false, not, cond, List, [], ◌∷◌, ◌++◌, map, unwrap_or, refl, sym, ap, ◌∙◌, arith, inl, inr}
+use Rattle.std.specs.Prelude.{filter, slice_get, count_by}
+use Rattle.std.specs.List.{list_all, list_any}
+use Rattle.std.proofs.lemmas.Bool.{and_parts, cases_Bool, eqb-true, not_from_false}
+use Rattle.std.proofs.lemmas.List.Sums.{sum_by-cons}
+use Rattle.value_core.specs.Value.{same}
+use Rattle.value_core.specs.declared.value.Value.TheVariants.{Null}
+use Rattle.value_core.proofs.ValueLaws.{same_decides}
+use Rattle.predicate_core.specs.Truth.{value_at}
+use Rattle.predicate_core.proofs.OnceLists.{In, in_map}
+use Rattle.table_core.specs.Rows.{Row}
+use Rattle.table_core.specs.Bag.{same_cells, count, same_rows}
+use Rattle.table_core.proofs.BagLaws.{same_cells_decides}
+use Rattle.query_core.specs.Firsts.{projected, firsts}
+use Rattle.query_core.specs.Meaning.{selected, given_rows}
+use Rattle.root_search.specs.Fitting.{stands_in, fits_from}
+use Rattle.root_search.specs.Laws.{GivenFits}
+
+-- a test of all elements, and of some
+pub all_of : {X : Type 0} (p : X → Bool) (xs : List X) → ((x : X) → In x xs → p x ≡ true) → list_all p xs ≡ true
+all_of p [] each = refl
+all_of p (x ∷ xs) each = rw (each x (inl refl)) (all_of p xs (λ y i. each y (inr i)))
+
+pub of_all : {X : Type 0} (p : X → Bool) (x : X) (xs : List X) → list_all p xs ≡ true → In x xs → p x ≡ true
+of_all p x [] all i = absurd i
+of_all p x (y ∷ ys) all (inl e) = ap p e ∙ (and_parts (p y) (list_all p ys) all).0
+of_all p x (y ∷ ys) all (inr i) = of_all p x ys (and_parts (p y) (list_all p ys) all).1 i
+
+any_of : {X : Type 0} (p : X → Bool) (x : X) (xs : List X) → In x xs → p x ≡ true → list_any p xs ≡ true
+any_of p x [] i passes = absurd i
+any_of p x (y ∷ ys) (inl e) passes = let here : p y ≡ true = ap p (sym e) ∙ passes in rw here refl
+any_of p x (y ∷ ys) (inr i) passes = later (p y) (any_of p x ys i passes)
+  where
+    later : (b : Bool) → list_any p ys ≡ true → (b || list_any p ys) ≡ true
+    later true more = refl
+    later false more = more
+
+-- what is in one of two lists is in both joined
+in_front : {X : Type 0} (x : X) (xs ys : List X) → In x xs → In x (xs ++ ys)
+in_front x [] ys i = absurd i
+in_front x (z ∷ xs) ys (inl e) = inl e
+in_front x (z ∷ xs) ys (inr i) = inr (in_front x xs ys i)
+
+in_back : {X : Type 0} (x : X) (xs ys : List X) → In x ys → In x (xs ++ ys)
+in_back x [] ys i = i
+in_back x (z ∷ xs) ys i = inr (in_back x xs ys i)
+
+-- what a function gives of an element is an element of the mapped list
+map_in : {X Y : Type 0} (f : X → Y) (x : X) (xs : List X) → In x xs → In (f x) (map f xs)
+map_in f x [] i = absurd i
+map_in f x (z ∷ xs) (inl e) = inl (ap f e)
+map_in f x (z ∷ xs) (inr i) = inr (map_in f x xs i)
+
+-- what is kept is in the list, and an element that passes is kept
+kept_step : {X : Type 0} (b : Bool) (x z : X) (xs kept : List X) → (In x kept → In x xs) → In x (cond b (z ∷ kept) kept) → In x (z ∷ xs)
+kept_step true x z xs kept rest (inl e) = inl e
+kept_step true x z xs kept rest (inr i) = inr (rest i)
+kept_step false x z xs kept rest i = inr (rest i)
+
+kept_in : {X : Type 0} (p : X → Bool) (x : X) (xs : List X) → In x (filter p xs) → In x xs
+kept_in p x [] i = absurd i
+kept_in p x (z ∷ xs) i = kept_step (p z) x z xs (filter p xs) (kept_in p x xs) i
+
+in_kept : {X : Type 0} (p : X → Bool) (x : X) (xs : List X) → p x ≡ true → In x xs → In x (filter p xs)
+in_kept p x [] passes i = absurd i
+in_kept p x (z ∷ xs) passes (inl e) = let passed : p z ≡ true = ap p (sym e) ∙ passes in rw passed (inl e)
+in_kept p x (z ∷ xs) passes (inr i) = later (p z) (in_kept p x xs passes i)
+  where
+    later : (b : Bool) → In x (filter p xs) → In x (cond b (z ∷ filter p xs) (filter p xs))
+    later true j = inr j
+    later false j = j
+
+-- each row has a first copy, and each first copy is a row
+in_firsts : (x : Row) (rows : List Row) → In x rows → In x (firsts rows)
+in_firsts x [] i = absurd i
+in_firsts x (row ∷ rows) (inl e) = inl e
+in_firsts x (row ∷ rows) (inr i) =
+    elim (cases_Bool (same_cells x row)) [
+      | inl same ↦ inl ((same_cells_decides x row).0 same)
+      | inr other ↦ inr (in_kept (λ r. not (same_cells r row)) x (firsts rows) (not_from_false (same_cells x row) other) (in_firsts x rows i))
+    ]
+
+firsts_in : (x : Row) (rows : List Row) → In x (firsts rows) → In x rows
+firsts_in x [] i = absurd i
+firsts_in x (row ∷ rows) (inl e) = inl e
+firsts_in x (row ∷ rows) (inr i) = inr (firsts_in x rows (kept_in (λ r. not (same_cells r row)) x (firsts rows) i))
+
+-- the rows that a map gives are those that it selects
+in_given : (picks : List ℕ) (distinct : Bool) (rows : List Row) (x : Row) → In x (selected picks rows) → In x (given_rows picks distinct rows)
+in_given picks true rows x i = in_firsts x (selected picks rows) i
+in_given picks false rows x i = i
+
+given_in : (picks : List ℕ) (distinct : Bool) (rows : List Row) (x : Row) → In x (given_rows picks distinct rows) → In x (selected picks rows)
+given_in picks true rows x i = firsts_in x (selected picks rows) i
+given_in picks false rows x i = i
+
+-- the places among one row more
+count_next : (p : Row → Bool) (row : Row) (rows : List Row) → count_by p (row ∷ rows) ≡ cond (p row) 1 0 + count_by p rows
+count_next p row rows = sum_by-cons (λ r. cond (p r) 1 0) row rows
+
+-- a row has a place exactly where it is among the rows
+pub counted : (x : Row) (rows : List Row) → In x rows → 1 ≤ count rows x
+counted x [] i = absurd i
+counted x (row ∷ rows) (inl e) =
+    let here : same_cells row x ≡ true = (same_cells_decides row x).1 (sym e) in
+    let next = count_next (λ r. same_cells r x) row rows in
+    rw (next, here) (omega arith)
+counted x (row ∷ rows) (inr i) =
+    let next = count_next (λ r. same_cells r x) row rows in
+    let more = counted x rows i in
+    rw next (omega (arith, more))
+
+pub found : (x : Row) (rows : List Row) → 1 ≤ count rows x → In x rows
+found x [] some = absurd (omega (arith, some))
+found x (row ∷ rows) some =
+    let next = count_next (λ r. same_cells r x) row rows in
+    elim (cases_Bool (same_cells row x)) [
+      | inl here ↦ inl (sym ((same_cells_decides row x).0 here))
+      | inr other ↦ inr (found x rows (let h = rw (next, other) at some in omega (arith, h)))
+    ]
+
+-- rows that are one bag have the same elements
+pub bag_counts : (xs ys : List Row) (x : Row) → same_rows xs ys ≡ true → In x (xs ++ ys) → count xs x ≡ count ys x
+bag_counts xs ys x bag i = eqb-true _ _ (of_all (λ r. count xs r == count ys r) x (xs ++ ys) bag i)
+
+pub in_second : (xs ys : List Row) (x : Row) → same_rows xs ys ≡ true → In x xs → In x ys
+in_second xs ys x bag i = let e = bag_counts xs ys x bag (in_front x xs ys i) in let some = counted x xs i in found x ys (omega (arith, e, some))
+
+pub in_first : (xs ys : List Row) (x : Row) → same_rows xs ys ≡ true → In x ys → In x xs
+in_first xs ys x bag i = let e = bag_counts xs ys x bag (in_back x xs ys i) in let some = counted x ys i in found x xs (omega (arith, e, some))
+
+-- whether a row has at these places what another has from a place on
+abbrev Agrees : Row → List ℕ → Row → ℕ → Type 0
+Agrees row [] other place = Unit {0}
+Agrees row (at ∷ picks) other place = (value_at row at ≡ value_at other place) × Agrees row picks other (place + 1)
+
+-- each row agrees with one of the others, and each of the others with one of the rows
+abbrev Answered : List Row → List Row → List ℕ → ℕ → Type 0
+Answered rows output picks place =
+    ((row : Row) → In row rows → (other : Row) × In other output × Agrees row picks other place)
+    × ((other : Row) → In other output → (row : Row) × In row rows × Agrees row picks other place)
+
+-- where each row has the value of some other row, all stand in those
+stand_all : (rows others : List Row) (at place : ℕ) → ((row : Row) → In row rows → (other : Row) × In other others × (value_at row at ≡ value_at other place))
+    → list_all (λ row. stands_in others place row at) rows ≡ true
+stand_all rows others at place each =
+    all_of _ rows (λ row i. let h = each row i in any_of _ h.0 others h.1 ((same_decides (value_at row at) (value_at h.0 place)).1 h.2))
+
+-- columns that agree serve
+answered_fits : (rows output : List Row) (picks : List ℕ) (place : ℕ) → Answered rows output picks place → fits_from rows output place picks ≡ true
+answered_fits rows output [] place answered = refl
+answered_fits rows output (at ∷ picks) place answered =
+    let forth = stand_all rows output at place (λ row i. let h = answered.0 row i in (h.0, h.1, h.2.0)) in
+    let back = stand_all output rows place at (λ other i. let h = answered.1 other i in (h.0, h.1, sym h.2.0)) in
+    rw (forth, back) (answered_fits rows output picks (place + 1) (
+      λ row i. let h = answered.0 row i in (h.0, h.1, h.2.1),
+      λ other i. let h = answered.1 other i in (h.0, h.1, h.2.1),
+    ))
+
+-- a row agrees with what is projected of it
+agrees_from : (row : Row) (picks : List ℕ) (other : Row) (place : ℕ) → ((k : ℕ) → slice_get (projected picks row) k ≡ slice_get other (place + k)) → Agrees row picks other place
+agrees_from row [] other place here = tt
+agrees_from row (at ∷ picks) other place here = (
+  ap (λ o. unwrap_or o Null) (here 0 ∙ ap (slice_get other) (omega arith)),
+  agrees_from row picks other (place + 1) (λ k. here (suc k) ∙ ap (slice_get other) (omega arith)),
+)
+
+agrees : (row : Row) (picks : List ℕ) (other : Row) → other ≡ projected picks row → Agrees row picks other 0
+agrees row picks other e = agrees_from row picks other 0 (λ k. ap (λ r. slice_get r k) (sym e) ∙ ap (slice_get other) (omega arith))
+
+pub given_fits : (rows output : List Row) (picks : List ℕ) (distinct : Bool) → GivenFits rows output picks distinct
+given_fits rows output picks distinct bag = answered_fits rows output picks 0 (
+  λ row i.
+      let other = projected picks row in
+      (other, in_second given output other bag (in_given picks distinct rows other (map_in (projected picks) row rows i)), agrees row picks other refl),
+  λ other i.
+      let h = in_map (projected picks) other rows (given_in picks distinct rows other (in_first given output other bag i)) in
+      (h.0, h.1, agrees h.0 picks other h.2),
+)
+  where
+    given : List Row
+    given = given_rows picks distinct rows

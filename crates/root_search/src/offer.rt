@@ -1,0 +1,135 @@
+ghost use Rattle.std.specs.Prelude.{◌≡◌, ◌++◌, ◌∷◌, [], IfOk, OnOk, map, length, not, if◌then◌else◌};
+ghost use Rattle.std.specs.List.{list_any};
+ghost use Rattle.table_core.specs.Bag.{same_cells};
+ghost use Rattle.query_core.specs.Firsts.{firsts};
+ghost use Rattle.root_search.specs.Walk.{cell_mask, offer_of, columns_of};
+
+use crate::fitting::{places_of, same_at};
+use bit_rows::BitRow;
+use sqlite_items::Items;
+use std::alloc::Global;
+use table_core::{Tuple, same_cells};
+use value_core::{ColType, OutOfMemory, Value};
+
+/// A body column for a column of the output: which candidate rows have there the value of each row of the output.
+#[derive(Debug, Drop)]
+pub(crate) struct Offer {
+    pub at: usize,
+    pub masks: Items<BitRow>,
+}
+
+// Whether a row is among these rows.
+fn has_row(rows: &[Tuple], row: &[Value]) -> bool
+    ensures { result ≡ list_any (λ r. same_cells r row.now) rows.now }
+{
+    rows.iter().any(|r| same_cells(r.cells(), row))
+}
+
+// Appends a copy of a row, if it isn't among the rows before it.
+fn push_first(
+    alloc: Global,
+    out: &mut Items<Tuple>,
+    before: &[Tuple],
+    row: &Tuple,
+) -> Result<(), OutOfMemory>
+    ensures { OnOk result (out.new ≡ out.old ++ (if not (list_any (λ r. same_cells r row.now) before.now) then row.now ∷ [] else [])) }
+{
+    if !has_row(before, row.cells()) {
+        out.push(row.copy(alloc)?)?;
+    }
+    Ok(())
+}
+
+/// Each of these rows once, at its first place.
+pub(crate) fn first_rows(alloc: Global, rows: &[Tuple]) -> Result<Items<Tuple>, OutOfMemory>
+    ensures { IfOk result (λ out. out ≡ firsts rows.now) }
+{
+    let mut out = Items::new(alloc);
+    for i in 0..rows.len() {
+        push_first(alloc, &mut out, &rows[..i], &rows[i])?;
+    }
+    Ok(out)
+}
+
+// Which candidate rows have at a place the value that a row has at another.
+fn cell_mask(
+    alloc: Global,
+    candidates: &[Tuple],
+    place: usize,
+    at: usize,
+    row: &[Value],
+) -> Result<BitRow, OutOfMemory>
+    ensures { IfOk result (λ mask. mask ≡ cell_mask candidates.now place at row.now) }
+{
+    let mut bits = Vec::with_capacity(alloc, candidates.len())?;
+    for candidate in candidates {
+        bits.push(same_at(candidate.cells(), at, row, place))?;
+    }
+    BitRow::of(alloc, bits.as_slice())
+}
+
+/// Which candidate rows have at a place the value that each of some rows has at another.
+pub(crate) fn cell_masks(
+    alloc: Global,
+    candidates: &[Tuple],
+    rows: &[Tuple],
+    place: usize,
+    at: usize,
+) -> Result<Items<BitRow>, OutOfMemory>
+    ensures { IfOk result (λ masks. masks ≡ map (cell_mask candidates.now place at) rows.now) }
+{
+    let mut masks = Items::new(alloc);
+    for row in rows {
+        masks.push(cell_mask(alloc, candidates, place, at, row.cells())?)?;
+    }
+    Ok(masks)
+}
+
+// The body column at a place as an offer for a column of the output.
+fn offer_of(
+    alloc: Global,
+    candidates: &[Tuple],
+    rows: &[Tuple],
+    place: usize,
+    at: usize,
+) -> Result<Offer, OutOfMemory>
+    ensures { IfOk result (λ offer. offer ≡ offer_of candidates.now rows.now place at) }
+{
+    let masks = cell_masks(alloc, candidates, rows, place, at)?;
+    Ok(Offer { at, masks })
+}
+
+// The body columns at these places as offers for a column of the output.
+fn offers_at(
+    alloc: Global,
+    candidates: &[Tuple],
+    rows: &[Tuple],
+    place: usize,
+    places: &[usize],
+) -> Result<Items<Offer>, OutOfMemory>
+    ensures { IfOk result (λ offers. offers ≡ map (offer_of candidates.now rows.now place) places.now) }
+{
+    let mut offers = Items::new(alloc);
+    for at in places {
+        offers.push(offer_of(alloc, candidates, rows, place, *at)?)?;
+    }
+    Ok(offers)
+}
+
+/// For each column of an output, of these types and with these rows, the body columns that may be selected for it.
+pub(crate) fn columns_of(
+    alloc: Global,
+    types: &[ColType],
+    candidates: &[Tuple],
+    rows: &[Tuple],
+    wanted: &[ColType],
+) -> Result<Items<Items<Offer>>, OutOfMemory>
+    ensures { IfOk result (λ columns. columns ≡ columns_of types.now candidates.now rows.now 0 wanted.now) }
+{
+    let mut columns = Items::new(alloc);
+    for place in 0..wanted.len() {
+        let places = places_of(alloc, wanted[place], types)?;
+        columns.push(offers_at(alloc, candidates, rows, place, places.as_slice())?)?;
+    }
+    Ok(columns)
+}
