@@ -24,8 +24,12 @@ use std::alloc::Global;
 use table_core::{Table, Task, Tuple};
 use value_core::{OutOfMemory, Value};
 
-// The rows of an input, none where there is no such input.
-fn input_rows(alloc: Global, inputs: &[Table], table: usize) -> Result<Items<Tuple>, OutOfMemory>
+/// Copies of an input's rows, none where there is no such input.
+pub fn input_rows(
+    alloc: Global,
+    inputs: &[Table],
+    table: usize,
+) -> Result<Items<Tuple>, OutOfMemory>
     ensures { IfOk result (λ out. out ≡ (input_at inputs.now table).rows) }
 {
     match inputs.get(table) {

@@ -19,8 +19,8 @@ impl Offer<'_> {
     ghost use Rattle.fill_core.specs.Offers.{as_list, filled_by};
     ghost use Rattle.fill_core.specs.View.{entry_filled};
 
-    // The predicates of the parts, and behind them that of a choice, where it has one.
-    fn preds_with(&self, alloc: Global, pred: &Option<Pred>) -> Result<Items<Pred>, OutOfMemory>
+    /// The predicates of the parts, and behind them that of a choice, where it has one.
+    pub fn preds_with(&self, alloc: Global, pred: &Option<Pred>) -> Result<Items<Pred>, OutOfMemory>
         ensures { IfOk result (λ preds. preds ≡ self.now.preds.now ++ as_list pred.now) }
     {
         match pred {

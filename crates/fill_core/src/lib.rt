@@ -5,7 +5,6 @@ mod between;
 mod bits;
 mod choice;
 mod fillings;
-mod input;
 mod keeper;
 mod offer;
 mod over;

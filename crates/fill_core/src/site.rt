@@ -8,7 +8,7 @@ use crate::offer::Whole;
 use crate::over::Over;
 use crate::receiver::Receiver;
 use crate::row::Row;
-use crate::input::input_rows;
+use bag_eval::input_rows;
 use query_core::{Agg, Pairing, Uniting, group_types, input_types};
 use sqlite_items::Items;
 use std::alloc::Global;

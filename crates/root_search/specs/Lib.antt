@@ -1,3 +1,4 @@
+pub mod Answers
 pub mod Fitting
 pub mod Laws
 pub mod Narrow
@@ -5,3 +6,4 @@ pub mod Readings
 pub mod Targets
 pub mod Walk
 pub mod WalkState
+pub mod Reads

@@ -1,15 +1,17 @@
-//! Which answers a root has: the maps by which some of its candidate rows give the output.
+//! The answers of a root, read off bits: the maps by which some of its candidate rows give the output.
 #![tactic(auto)]
 
-mod fitting;
+mod finder;
 mod laws;
 mod offer;
 mod reading;
+mod refill;
+mod root;
 mod target;
 
-pub use fitting::fitting_maps;
 pub use laws::{
     bits_give_what_rows_give, readings_have_their_targets, too_few_give_nothing, what_gives_fits,
 };
 pub use reading::{Reading, readings, targets};
+pub use root::push_answers;
 pub use target::{Target, are_enough, bits_give};

@@ -1,0 +1,173 @@
+use crate::reading::{Reading, readings};
+use crate::refill::refilled;
+use crate::target::bits_give;
+use fill_core::{Choice, Offer, Receiver};
+use predicate_core::Pred;
+use query_core::{Node, Query};
+use rank_core::{Ranked, key};
+use sqlite_items::Items;
+use std::alloc::Global;
+use table_core::Task;
+use value_core::{OutOfMemory, concatenated, copied};
+
+/// Finds the answers among the fillings of the skeleton of a number.
+#[derive(Drop)]
+pub(crate) struct Finder<'a> {
+    pub task: &'a Task,
+    pub number: u32,
+    pub skeleton: &'a Node,
+}
+
+// A choice of an offer, with one reading and with several.
+#[derive(Drop)]
+struct Read<'a> {
+    offer: &'a Offer<'a>,
+    choice: &'a Choice,
+    reading: &'a Reading,
+}
+
+#[derive(Drop)]
+struct Reads<'a> {
+    offer: &'a Offer<'a>,
+    choice: &'a Choice,
+    readings: &'a [Reading],
+}
+
+impl Finder<'_> {
+    ghost use Rattle.std.specs.Prelude.{◌≡◌, ◌++◌, ℕ, Bool, None, All, IfOk, OnOk, length};
+    ghost use Rattle.query_core.specs.Answers.{ranked};
+    ghost use Rattle.query_core.specs.Membership.{query_fault};
+    ghost use Rattle.query_core.specs.View.{tree, select};
+    ghost use Rattle.rank_core.specs.View.{ranked_query, ranked_queries};
+    ghost use Rattle.root_search.specs.Answers.{query_of};
+    ghost use Rattle.root_search.specs.Reads.{preds_of, read_answer, read_answers, choice_answers};
+
+    // The query of these predicates, this map and flag.
+    fn query(
+        &self,
+        alloc: Global,
+        preds: &[Pred],
+        picks: &[usize],
+        distinct: bool,
+    ) -> Result<Query, OutOfMemory>
+        ensures { IfOk result (λ q. select q ≡ query_of (tree self.now.skeleton.now) preds.now picks.now distinct) }
+    {
+        Ok(Query {
+            body: refilled(alloc, self.skeleton, &mut preds.iter())?,
+            map: copied(alloc, picks)?,
+            distinct,
+        })
+    }
+
+    // That query with its key.
+    fn ranked(
+        &self,
+        alloc: Global,
+        preds: &[Pred],
+        picks: &[usize],
+        distinct: bool,
+    ) -> Result<Ranked, OutOfMemory>
+        requires { query_fault self.now.task.now (query_of (tree self.now.skeleton.now) preds.now picks.now distinct) ≡ None }
+        ensures { IfOk result (λ r. ranked_query r ≡ ranked self.now.task.now (record { skeleton = self.now.number; query = query_of (tree self.now.skeleton.now) preds.now picks.now distinct })) }
+    {
+        let query = self.query(alloc, preds, picks, distinct)?;
+        let key = key(self.task, self.number, &query);
+        Ok(Ranked { key, query })
+    }
+
+    // Appends the query of a choice by a reading, where the choice's bits give the output.
+    fn push_answer(
+        &self,
+        alloc: Global,
+        read: &Read<'_>,
+        distinct: bool,
+        out: &mut Vec<Ranked>,
+    ) -> Result<(), OutOfMemory>
+        requires wide { All (λ t. length read.now.choice.now.bits ≡ length t.mask) read.now.reading.now.targets }
+        requires fits { query_fault self.now.task.now (query_of (tree self.now.skeleton.now) (preds_of read.now.offer.now.preds.now read.now.choice.now) read.now.reading.now.picks distinct) ≡ None }
+        ensures { OnOk result (ranked_queries out.new ≡ ranked_queries out.old ++ read_answer self.now.task.now self.now.number (tree self.now.skeleton.now) read.now.offer.now.preds.now read.now.choice.now read.now.reading.now distinct) }
+    {
+        let wanted = self.task.output().tuples().len();
+        let targets = read.reading.targets.as_slice();
+        if !bits_give(distinct, wanted, &read.choice.bits, targets) {
+            return Ok(());
+        }
+        let preds = read.offer.preds_with(alloc, &read.choice.pred)?;
+        let picks = read.reading.picks.as_slice();
+        out.push(self.ranked(alloc, preds.as_slice(), picks, distinct)?)?;
+        Ok(())
+    }
+
+    // Appends the queries of a choice by a reading, with and without removal of duplicates.
+    fn push_answers(
+        &self,
+        alloc: Global,
+        read: &Read<'_>,
+        out: &mut Vec<Ranked>,
+    ) -> Result<(), OutOfMemory>
+        requires wide { All (λ t. length read.now.choice.now.bits ≡ length t.mask) read.now.reading.now.targets }
+        requires fits { (distinct : Bool) → query_fault self.now.task.now (query_of (tree self.now.skeleton.now) (preds_of read.now.offer.now.preds.now read.now.choice.now) read.now.reading.now.picks distinct) ≡ None }
+        ensures { OnOk result (ranked_queries out.new ≡ ranked_queries out.old ++ read_answers self.now.task.now self.now.number (tree self.now.skeleton.now) read.now.offer.now.preds.now read.now.choice.now read.now.reading.now) }
+    {
+        self.push_answer(alloc, read, false, out)?;
+        self.push_answer(alloc, read, true, out)
+    }
+
+    // Appends the queries of a choice by each of some readings.
+    fn push_choice(
+        &self,
+        alloc: Global,
+        reads: &Reads<'_>,
+        out: &mut Vec<Ranked>,
+    ) -> Result<(), OutOfMemory>
+        requires wide { All (λ r. All (λ t. length reads.now.choice.now.bits ≡ length t.mask) r.targets) reads.now.readings.now }
+        requires fits { All (λ r. (distinct : Bool) → query_fault self.now.task.now (query_of (tree self.now.skeleton.now) (preds_of reads.now.offer.now.preds.now reads.now.choice.now) r.picks distinct) ≡ None) reads.now.readings.now }
+        ensures { OnOk result (ranked_queries out.new ≡ ranked_queries out.old ++ choice_answers self.now.task.now self.now.number (tree self.now.skeleton.now) reads.now.offer.now.preds.now reads.now.readings.now reads.now.choice.now) }
+    {
+        for reading in reads.readings {
+            let (offer, choice) = (reads.offer, reads.choice);
+            let read = Read {
+                offer,
+                choice,
+                reading,
+            };
+            self.push_answers(alloc, &read, out)?;
+        }
+        Ok(())
+    }
+}
+
+impl Receiver for Finder<'_> {
+    ghost use Rattle.std.specs.Prelude.{Unit};
+    ghost use Rattle.query_core.specs.Answers.{RankedQuery};
+    ghost use Rattle.query_core.specs.View.{tree};
+    ghost use Rattle.rank_core.specs.View.{ranked_queries};
+    ghost use Rattle.root_search.specs.Answers.{answers_on, FillingFits};
+
+    type Store = Vec<Ranked>;
+
+    ghost Item = { RankedQuery };
+    ghost held = { λ f store. ranked_queries store };
+    ghost gives = { λ f filled. answers_on f.task.now f.number (tree f.skeleton.now) filled };
+    ghost typed = { λ f types. Unit };
+    ghost accepts = { λ f filled. FillingFits f.task.now (tree f.skeleton.now) filled };
+
+    fn take(
+        &self,
+        alloc: Global,
+        offer: &Offer<'_>,
+        store: &mut Vec<Ranked>,
+    ) -> Result<(), OutOfMemory> {
+        let readings = readings(alloc, offer.types, offer.candidates, self.task.output())?;
+        let readings = readings.as_slice();
+        for choice in offer.choices {
+            let reads = Reads {
+                offer,
+                choice,
+                readings,
+            };
+            self.push_choice(alloc, &reads, store)?;
+        }
+        Ok(())
+    }
+}
