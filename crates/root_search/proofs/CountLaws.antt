@@ -10,26 +10,14 @@ use Rattle.table_core.specs.Bag.{same_cells, count, same_rows, has_double}
 use Rattle.table_core.proofs.BagLaws.{same_cells_decides}
 use Rattle.query_core.specs.Firsts.{firsts}
 use Rattle.query_laws.proofs.MemberLaws.{in_back}
-use Rattle.query_laws.proofs.FirstCopyLaws.{in_part, part_firsts, in_firsts, once_firsts, firsts_single}
-use Rattle.root_search.proofs.FitLaws.{all_of, of_all, counted, found, bag_counts, in_first, in_second}
+use Rattle.query_laws.proofs.FirstCopyLaws.{in_firsts, once_firsts, firsts_single}
+use Rattle.root_search.proofs.FitLaws.{all_of, of_all, firsts_in, counted, found, bag_counts, in_first, in_second}
 
 -- two tests that hold of the same are one
 pub both_same : (a b : Bool) → (a ≡ true → b ≡ true) → (b ≡ true → a ≡ true) → a ≡ b
 both_same true b to from = sym (to refl)
 both_same false true to from = absurd (false≢true (from refl))
 both_same false false to from = refl
-
-firsts_in : (x : Row) (rows : List Row) → In x (firsts rows) → In x rows
-firsts_in x rows i = in_part x (firsts rows) rows (part_firsts rows) i
-
--- a count by one test is a count by another that gives the same of each element
-count_same : (p q : Row → Bool) (xs : List Row) → ((x : Row) → In x xs → p x ≡ q x) → count_by p xs ≡ count_by q xs
-count_same p q [] same = refl
-count_same p q (x ∷ xs) same =
-    sum_by-cons (λ r. cond (p r) 1 0) x xs
-    ∙ ap (λ b. cond b 1 0 + count_by p xs) (same x (inl refl))
-    ∙ ap (λ n. cond (q x) 1 0 + n) (count_same p q xs (λ y i. same y (inr i)))
-    ∙ sym (sum_by-cons (λ r. cond (q r) 1 0) x xs)
 
 -- whether a row is among some rows
 abbrev among : List Row → Row → Bool
@@ -53,8 +41,10 @@ sum_both : (f g : Row → ℕ) (xs : List Row) → sum_by (λ x. f x + g x) xs �
 sum_both f g [] = refl
 sum_both f g (x ∷ xs) = omega (arith, sum_by-cons (λ y. f y + g y) x xs, sum_by-cons f x xs, sum_by-cons g x xs, sum_both f g xs)
 
-sum_same : (f g : Row → ℕ) (xs : List Row) → ((x : Row) → f x ≡ g x) → sum_by f xs ≡ sum_by g xs
-sum_same f g xs same = ap (λ h. sum_by h xs) (λ i x. same x i)
+-- sums of what two functions give are the same where they give the same
+sums_agree : (f g : Row → ℕ) (xs : List Row) → ((x : Row) → In x xs → f x ≡ g x) → sum_by f xs ≡ sum_by g xs
+sums_agree f g [] same = refl
+sums_agree f g (x ∷ xs) same = sum_by-cons f x xs ∙ rw (same x (inl refl), sums_agree f g xs (λ y i. same y (inr i))) (sym (sum_by-cons g x xs))
 
 sum_zero : (xs : List Row) → sum_by (λ x. 0) xs ≡ 0
 sum_zero [] = refl
@@ -81,7 +71,7 @@ once_count (y ∷ ys) x once =
 pub places_together : (xs ys : List Row) → Once ys → sum_by (count xs) ys ≡ count_by (among ys) xs
 places_together [] ys once = sum_zero ys
 places_together (x ∷ xs) ys once =
-    sum_same (count (x ∷ xs)) (λ y. cond (same_cells x y) 1 0 + count xs y) ys (λ y. sum_by-cons (λ r. cond (same_cells r y) 1 0) x xs)
+    sums_agree (count (x ∷ xs)) (λ y. cond (same_cells x y) 1 0 + count xs y) ys (λ y i. sum_by-cons (λ r. cond (same_cells r y) 1 0) x xs)
     ∙ sum_both (λ y. cond (same_cells x y) 1 0) (count xs) ys
     ∙ ap (λ n. n + sum_by (count xs) ys) (once_count ys x once)
     ∙ ap (λ n. cond (among ys x) 1 0 + n) (places_together xs ys once)
@@ -111,11 +101,6 @@ within xs ys each = places_together xs (firsts ys) (once_firsts ys) ∙ all_coun
 are_within : (xs ys : List Row) (x : Row) → sum_by (count xs) (firsts ys) ≡ length xs → In x xs → In x ys
 are_within xs ys x all i =
     firsts_in x ys (among_in (firsts ys) x (counted_all (among (firsts ys)) xs x (sym (places_together xs (firsts ys) (once_firsts ys)) ∙ all) i))
-
--- sums of what two functions give are the same where they give the same
-sums_agree : (f g : Row → ℕ) (xs : List Row) → ((x : Row) → In x xs → f x ≡ g x) → sum_by f xs ≡ sum_by g xs
-sums_agree f g [] same = refl
-sums_agree f g (x ∷ xs) same = sum_by-cons f x xs ∙ rw (same x (inl refl), sums_agree f g xs (λ y i. same y (inr i))) (sym (sum_by-cons g x xs))
 
 -- rows that are one bag have the same places of each first copy, and are as many
 bag_firsts : (xs ys : List Row) → same_rows xs ys ≡ true → (y : Row) → In y (firsts ys) → count xs y ≡ count ys y
@@ -158,7 +143,7 @@ one_place xs x once i = once_place xs x once (in_among xs x i)
     flip a b = both_same _ _ (λ e. (same_cells_decides b a).1 (sym ((same_cells_decides a b).0 e))) (λ e. (same_cells_decides a b).1 (sym ((same_cells_decides b a).0 e)))
 
     once_place : (ys : List Row) (y : Row) → Once ys → among ys y ≡ true → count ys y ≡ 1
-    once_place ys y single here = sum_same (λ r. cond (same_cells r y) 1 0) (λ r. cond (same_cells y r) 1 0) ys (λ r. ap (λ b. cond b 1 0) (flip r y)) ∙ once_count ys y single ∙ rw here refl
+    once_place ys y single here = sums_agree (λ r. cond (same_cells r y) 1 0) (λ r. cond (same_cells y r) 1 0) ys (λ r i. ap (λ b. cond b 1 0) (flip r y)) ∙ once_count ys y single ∙ rw here refl
 
 -- rows with a double have fewer first copies
 kept_most : (p : Row → Bool) (xs : List Row) → length (filter p xs) ≤ length xs

@@ -1,10 +1,9 @@
 -- A map that gives the output fits.
-use Rattle.std.proofs.Common.{◌≡◌, ◌≤◌, ℕ, suc, ◌+◌, ◌==◌, ◌||◌, Bool, true, false, not, cond, List, [], ◌∷◌, ◌++◌, map, unwrap_or, refl, sym, ap, ◌∙◌, arith, inl, inr}
-use Rattle.std.specs.Prelude.{filter, slice_get, count_by}
+use Rattle.std.proofs.Common.{◌≡◌, ◌≤◌, ℕ, suc, ◌+◌, ◌==◌, ◌||◌, Bool, true, false, cond, List, [], ◌∷◌, ◌++◌, unwrap_or, refl, sym, ap, ◌∙◌, arith, inl, inr}
+use Rattle.std.specs.Prelude.{slice_get, count_by}
 use Rattle.std.specs.List.{list_all, list_any}
-use Rattle.std.proofs.lemmas.Bool.{and_parts, cases_Bool, eqb-true, not_from_false}
+use Rattle.std.proofs.lemmas.Bool.{and_parts, cases_Bool, eqb-true}
 use Rattle.std.proofs.lemmas.List.Sums.{sum_by-cons}
-use Rattle.value_core.specs.Value.{same}
 use Rattle.value_core.specs.declared.value.Value.TheVariants.{Null}
 use Rattle.value_core.proofs.ValueLaws.{same_decides}
 use Rattle.predicate_core.specs.Truth.{value_at}
@@ -14,6 +13,8 @@ use Rattle.table_core.specs.Bag.{same_cells, count, same_rows}
 use Rattle.table_core.proofs.BagLaws.{same_cells_decides}
 use Rattle.query_core.specs.Firsts.{projected, firsts}
 use Rattle.query_core.specs.Meaning.{selected, given_rows}
+use Rattle.query_laws.proofs.MemberLaws.{in_front, in_back, map_in}
+use Rattle.query_laws.proofs.FirstCopyLaws.{in_part, part_firsts, in_firsts}
 use Rattle.root_search.specs.Fitting.{stands_in, fits_from}
 use Rattle.root_search.specs.Laws.{GivenFits}
 
@@ -36,55 +37,9 @@ any_of p x (y ∷ ys) (inr i) passes = later (p y) (any_of p x ys i passes)
     later true more = refl
     later false more = more
 
--- what is in one of two lists is in both joined
-in_front : {X : Type 0} (x : X) (xs ys : List X) → In x xs → In x (xs ++ ys)
-in_front x [] ys i = absurd i
-in_front x (z ∷ xs) ys (inl e) = inl e
-in_front x (z ∷ xs) ys (inr i) = inr (in_front x xs ys i)
-
-in_back : {X : Type 0} (x : X) (xs ys : List X) → In x ys → In x (xs ++ ys)
-in_back x [] ys i = i
-in_back x (z ∷ xs) ys i = inr (in_back x xs ys i)
-
--- what a function gives of an element is an element of the mapped list
-map_in : {X Y : Type 0} (f : X → Y) (x : X) (xs : List X) → In x xs → In (f x) (map f xs)
-map_in f x [] i = absurd i
-map_in f x (z ∷ xs) (inl e) = inl (ap f e)
-map_in f x (z ∷ xs) (inr i) = inr (map_in f x xs i)
-
--- what is kept is in the list, and an element that passes is kept
-kept_step : {X : Type 0} (b : Bool) (x z : X) (xs kept : List X) → (In x kept → In x xs) → In x (cond b (z ∷ kept) kept) → In x (z ∷ xs)
-kept_step true x z xs kept rest (inl e) = inl e
-kept_step true x z xs kept rest (inr i) = inr (rest i)
-kept_step false x z xs kept rest i = inr (rest i)
-
-kept_in : {X : Type 0} (p : X → Bool) (x : X) (xs : List X) → In x (filter p xs) → In x xs
-kept_in p x [] i = absurd i
-kept_in p x (z ∷ xs) i = kept_step (p z) x z xs (filter p xs) (kept_in p x xs) i
-
-in_kept : {X : Type 0} (p : X → Bool) (x : X) (xs : List X) → p x ≡ true → In x xs → In x (filter p xs)
-in_kept p x [] passes i = absurd i
-in_kept p x (z ∷ xs) passes (inl e) = let passed : p z ≡ true = ap p (sym e) ∙ passes in rw passed (inl e)
-in_kept p x (z ∷ xs) passes (inr i) = later (p z) (in_kept p x xs passes i)
-  where
-    later : (b : Bool) → In x (filter p xs) → In x (cond b (z ∷ filter p xs) (filter p xs))
-    later true j = inr j
-    later false j = j
-
--- each row has a first copy, and each first copy is a row
-in_firsts : (x : Row) (rows : List Row) → In x rows → In x (firsts rows)
-in_firsts x [] i = absurd i
-in_firsts x (row ∷ rows) (inl e) = inl e
-in_firsts x (row ∷ rows) (inr i) =
-    elim (cases_Bool (same_cells x row)) [
-      | inl same ↦ inl ((same_cells_decides x row).0 same)
-      | inr other ↦ inr (in_kept (λ r. not (same_cells r row)) x (firsts rows) (not_from_false (same_cells x row) other) (in_firsts x rows i))
-    ]
-
-firsts_in : (x : Row) (rows : List Row) → In x (firsts rows) → In x rows
-firsts_in x [] i = absurd i
-firsts_in x (row ∷ rows) (inl e) = inl e
-firsts_in x (row ∷ rows) (inr i) = inr (firsts_in x rows (kept_in (λ r. not (same_cells r row)) x (firsts rows) i))
+-- each first copy is a row
+pub firsts_in : (x : Row) (rows : List Row) → In x (firsts rows) → In x rows
+firsts_in x rows i = in_part x (firsts rows) rows (part_firsts rows) i
 
 -- the rows that a map gives are those that it selects
 in_given : (picks : List ℕ) (distinct : Bool) (rows : List Row) (x : Row) → In x (selected picks rows) → In x (given_rows picks distinct rows)
