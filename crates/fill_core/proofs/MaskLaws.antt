@@ -77,10 +77,10 @@ left_joined_is constants p width (l ∷ ls) rights =
     let taken : take (length rights) (bits ++ later) ≡ bits = take_at bits later (length rights) wide in
     let dropped : drop (length rights) (bits ++ later) ≡ later = drop_at bits later (length rights) wide in
     let all : with_alone (length (l ∷ ls)) (length rights) (bits ++ later) ≡ (bits ++ alone) ++ with_alone (length ls) (length rights) later =
-        with_more (length ls) (length rights) (bits ++ later) ∙ rw (taken, dropped) refl in
+    with_more (length ls) (length rights) (bits ++ later) ∙ rw (taken, dropped) refl in
     let same : length bits ≡ length pairs = length-map pairs test in
     let first : masked (bits ++ alone) (pairs ++ padded) ≡ or_padded width l (kept_pairs constants p rights l) =
-        masked_append bits alone pairs padded same ∙ ap (λ t. t ++ masked alone padded) (masked_filter test pairs) ∙ or_alone width l test pairs in
+    masked_append bits alone pairs padded same ∙ ap (λ t. t ++ masked alone padded) (masked_filter test pairs) ∙ or_alone width l test pairs in
     ap (λ bs. masked (with_alone (length (l ∷ ls)) (length rights) bs) (crossed_and_padded width (l ∷ ls) rights)) split
     ∙ ap (λ bs. masked bs (crossed_and_padded width (l ∷ ls) rights)) all
     ∙ masked_append (bits ++ alone) (with_alone (length ls) (length rights) later) (pairs ++ padded) (crossed_and_padded width ls rights) (one_longer bits pairs _ _ same)
@@ -106,8 +106,14 @@ length_with_alone (suc n) rights bits same =
     let product = times_more n rights in
     let enough : rights ≤ length bits = omega (arith, same, product) in
     let rest : length (drop rights bits) ≡ n * rights = omega (arith, same, product, length-drop rights bits) in
-    omega (arith, product, length_with_alone n rights (drop rights bits) rest, length-take-le rights bits enough,
-    length-append (take rights bits ++ not (list_any (λ b. b) (take rights bits)) ∷ []) (with_alone n rights (drop rights bits)), length-append (take rights bits) (not (list_any (λ b. b) (take rights bits)) ∷ []))
+    omega (
+      arith,
+      product,
+      length_with_alone n rights (drop rights bits) rest,
+      length-take-le rights bits enough,
+      length-append (take rights bits ++ not (list_any (λ b. b) (take rights bits)) ∷ []) (with_alone n rights (drop rights bits)),
+      length-append (take rights bits) (not (list_any (λ b. b) (take rights bits)) ∷ []),
+    )
 
 pub length_padded : (width : ℕ) (lefts rights : List Row) → length (crossed_and_padded width lefts rights) ≡ length lefts * length rights + length lefts
 length_padded width [] rights = omega (arith, no_times (length rights))

@@ -55,7 +55,11 @@ impl Parts<'_> {
     fn preds(&self, alloc: Global) -> Result<Items<Pred>, OutOfMemory>
         ensures { IfOk result (λ preds. preds ≡ self.now.left.now.preds ++ self.now.right.now.preds) }
     {
-        concatenated(alloc, self.left.preds.as_slice(), self.right.preds.as_slice())
+        concatenated(
+            alloc,
+            self.left.preds.as_slice(),
+            self.right.preds.as_slice(),
+        )
     }
 }
 

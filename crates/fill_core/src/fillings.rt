@@ -22,9 +22,7 @@ pub fn site_of(alloc: Global, task: &Task, skeleton: &Node) -> Result<Site, OutO
 {
     match skeleton {
         Node::Base(table) => Ok(Site::Base(*table)),
-        Node::Filter(child, _) => {
-            Ok(Site::Over(Unary::Filter, fill(alloc, task, child.get())?))
-        }
+        Node::Filter(child, _) => { Ok(Site::Over(Unary::Filter, fill(alloc, task, child.get())?)) }
         Node::Join(a, b, _) => {
             let left = fill(alloc, task, a.get())?;
             let right = fill(alloc, task, b.get())?;
@@ -63,7 +61,9 @@ pub fn fill(alloc: Global, task: &Task, skeleton: &Node) -> Result<Row, OutOfMem
     let site = site_of(alloc, task, skeleton)?;
     let types = site.types(alloc, task)?;
     let mut entries = Vec::new(alloc);
-    let keeper = Keeper { types: types.as_slice() };
+    let keeper = Keeper {
+        types: types.as_slice(),
+    };
     site.walk(alloc, task, &keeper, &mut entries)?;
     let entries = Items::from_vec(entries);
     Ok(Row { types, entries })

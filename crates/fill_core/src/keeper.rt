@@ -48,12 +48,21 @@ impl Receiver for Keeper<'_> {
     type Store = Vec<Entry>;
 
     ghost Item = { Filled };
+
     ghost held = { λ k store. entries_filled k.types.now store.items };
+
     ghost gives = { λ k f. f ∷ [] };
+
     ghost typed = { λ k types. types ≡ k.types.now };
+
     ghost accepts = { λ k f. Unit };
 
-    fn take(&self, alloc: Global, offer: &Offer<'_>, store: &mut Vec<Entry>) -> Result<(), OutOfMemory> {
+    fn take(
+        &self,
+        alloc: Global,
+        offer: &Offer<'_>,
+        store: &mut Vec<Entry>,
+    ) -> Result<(), OutOfMemory> {
         for choice in offer.choices {
             store.push(offer.entry(alloc, choice)?)?;
         }

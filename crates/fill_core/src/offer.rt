@@ -29,7 +29,12 @@ impl Whole<'_> {
 
     /// Hands it to a receiver.
     #[tactic(auto, using(crate::proofs::OfferLaws::whole_is, crate::proofs::OfferLaws::whole_wide, crate::proofs::OfferLaws::all_of_one))]
-    pub fn hand<R: Receiver>(&self, alloc: Global, receiver: &R, store: &mut R::Store) -> Result<(), OutOfMemory>
+    pub fn hand<R: Receiver>(
+        &self,
+        alloc: Global,
+        receiver: &R,
+        store: &mut R::Store,
+    ) -> Result<(), OutOfMemory>
         requires typed { R.typed receiver.now self.now.types.now }
         requires accepts { R.accepts receiver.now (record { types = self.now.types.now; preds = self.now.preds.now; rows = self.now.rows.now }) }
         ensures { OnOk result (Gathered (R.held receiver.now) (R.gives receiver.now) store.old store.new (record { types = self.now.types.now; preds = self.now.preds.now; rows = self.now.rows.now } ∷ [])) }

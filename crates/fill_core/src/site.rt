@@ -38,11 +38,7 @@ pub enum Site {
 }
 
 // The types of an operator's columns, by its part's.
-fn unary_types(
-    alloc: Global,
-    op: &Unary,
-    child: &[ColType],
-) -> Result<Items<ColType>, OutOfMemory>
+fn unary_types(alloc: Global, op: &Unary, child: &[ColType]) -> Result<Items<ColType>, OutOfMemory>
     ensures { IfOk result (λ types. types ≡ unary_types op.now child.now) }
 {
     match op {
@@ -120,12 +116,23 @@ impl Site {
             Site::Base(table) => hand_base(alloc, task, *table, receiver, store),
             Site::Over(op, row) => {
                 let child = row.types.as_slice();
-                let over = Over { task, op, types, child };
+                let over = Over {
+                    task,
+                    op,
+                    types,
+                    child,
+                };
                 over.walk(alloc, row.entries.as_slice(), receiver, store)
             }
             Site::Between(op, a, b) => {
                 let (op, left, right) = (*op, a.types.as_slice(), b.types.as_slice());
-                let between = Between { task, op, types, left, right };
+                let between = Between {
+                    task,
+                    op,
+                    types,
+                    left,
+                    right,
+                };
                 let (lefts, rights) = (a.entries.as_slice(), b.entries.as_slice());
                 between.walk(alloc, &Sides { lefts, rights }, receiver, store)
             }

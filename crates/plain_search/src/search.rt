@@ -1,11 +1,13 @@
-ghost use Rattle.std.specs.Prelude.{◌≡◌, ◌≤◌, nat_le, length, map, IfOk};
+ghost use Rattle.std.specs.Prelude.{◌≡◌, ◌≤◌, nat_le, length, map, flat_map, IfOk};
+ghost use Rattle.std.specs.List.{enumerate_from};
 ghost use Rattle.query_core.specs.Grammar.{skeletons};
 ghost use Rattle.query_core.specs.Answers.{answers};
-ghost use Rattle.rank_core.specs.View.{ranked_query};
+ghost use Rattle.rank_core.specs.View.{ranked_query, ranked_queries};
+ghost use Rattle.root_search.specs.Answers.{root_answers};
 ghost use Rattle.skeleton_graph.specs.Nodes.{trees_of};
 
-use crate::roots::found;
 use rank_core::{Ranked, sort};
+use root_search::push_answers;
 use skeleton_graph::{Graph, GraphFault, build};
 use std::alloc::Global;
 use table_core::Task;
@@ -20,6 +22,19 @@ pub fn few(alloc: Global, task: &Task) -> Result<bool, OutOfMemory>
         Err(GraphFault::TooMany { .. }) => Ok(false),
         Err(GraphFault::OutOfMemory) => Err(OutOfMemory),
     }
+}
+
+// The answers of the skeletons of a graph, in the grammar's order. Nothing is kept from one skeleton to the next but its answers.
+fn found(alloc: Global, task: &Task, graph: &Graph) -> Result<Vec<Ranked>, OutOfMemory>
+    requires { trees_of graph.now.nodes ≡ skeletons task.now }
+    ensures { IfOk result (λ list. ranked_queries list ≡ flat_map (root_answers task.now) (enumerate_from 0 (trees_of graph.now.nodes))) }
+{
+    let mut out = Vec::new(alloc);
+    for number in 0..graph.len() {
+        let skeleton = graph.tree(alloc, number)?;
+        push_answers(alloc, task, number, &skeleton, &mut out)?;
+    }
+    Ok(out)
 }
 
 /// The answers of a task, best first, over the graph of its skeletons.

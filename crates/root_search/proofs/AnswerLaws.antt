@@ -1,9 +1,10 @@
 -- The answers of a task are those of its skeletons' standard fillings, read off bits.
-use Rattle.std.proofs.Common.{◌≡◌, ◌+◌, ℕ, append_assoc, Bool, true, false, ◌&&◌, ◌||◌, not, ◌==◌, List, [], ◌∷◌, ◌++◌, map, length, Option, Some, None, is_some, refl, sym, ap, subst, ◌∙◌, inl, inr, if◌then◌else◌}
+use Rattle.std.proofs.Common.{◌≡◌, ◌+◌, ℕ, append_assoc, Bool, true, false, ◌&&◌, ◌||◌, not, ◌==◌, List, [], ◌∷◌, ◌++◌, map, length, Option, Some, None, is_some, refl, sym, ap, subst, ◌∙◌, inl, inr, zero, suc, eq-eqb, if◌then◌else◌}
 use Rattle.std.specs.Prelude.{filter as list_filter, slice_get, All}
 use Rattle.std.specs.List.{flat_map, enumerate_from}
 use Rattle.std.proofs.lemmas.List.{map-append, append-nil, length-map}
 use Rattle.std.proofs.lemmas.List.Elements.{filter-append, All-cons, All-nil}
+use Rattle.std.proofs.lemmas.Option.{same_Some}
 use Rattle.value_core.specs.declared.value.ColType.{ColType}
 use Rattle.predicate_core.specs.declared.pred.Pred.{Pred}
 use Rattle.predicate_core.proofs.OnceLists.{In, in_map}
@@ -18,13 +19,14 @@ use Rattle.query_core.specs.Membership.{query_fault}
 use Rattle.query_core.specs.Standard.{rows_or_none, is_standard_tree}
 use Rattle.query_core.specs.Answers.{RankedQuery, ranked, is_answer, found}
 use Rattle.query_core.specs.Filled.{Filled, tree_preds, is_filled, filled, standard_fillings}
-use Rattle.query_core.proofs.MapLaws.{single, flat_map_twice, flat_map_same, flat_map_filter, kept_joined}
+use Rattle.query_core.proofs.MapLaws.{flat_map_twice, flat_map_none, kept_joined}
 use Rattle.query_laws.specs.Laws.{plain_queries, FaultsDecide}
 use Rattle.query_laws.proofs.FilledLaws.{filled_of, fillings_kept}
 use Rattle.query_laws.proofs.ListLaws.{in_contains}
-use Rattle.query_laws.proofs.MemberLaws.{in_flat_map}
-use Rattle.query_laws.proofs.QueryLaws.{opened, opened_fillings, opened_skeletons}
+use Rattle.query_laws.proofs.MemberLaws.{in_flat_map, in_kept, in_equal, flat_map_in as in_flat}
+use Rattle.query_laws.proofs.QueryLaws.{plain_queries_are, opened, opened_fillings, opened_skeletons}
 use Rattle.root_search.specs.Answers.{given, with_preds, query_of, answer_by, answers_by, answers_on, root_answers, FillingFits}
+use Rattle.root_search.specs.Laws.{FillingsFit}
 use Rattle.root_search.specs.Targets.{rows_give}
 
 -- a tree's own predicates, put into its holes, give the tree, and what stands behind them is left
@@ -38,8 +40,8 @@ given_own (t.unite kind a b) rest = rw (append_assoc (tree_preds a) (tree_preds 
 
 -- a filling of a skeleton is the skeleton with the filling's predicates
 pub refilled_is : (task : TaskParts) (s x : Tree) → opened s ≡ s → In x (fillings task s) → with_preds s (tree_preds x) ≡ x
-refilled_is task s x open i =
-    ap (λ u. with_preds u (tree_preds x)) (sym (opened_fillings task s x i ∙ open))
+refilled_is task s x is_open i =
+    ap (λ u. with_preds u (tree_preds x)) (sym (opened_fillings task s x i ∙ is_open))
     ∙ ap (λ ps. with_preds (opened x) ps) (sym (append-nil (tree_preds x)))
     ∙ ap (λ g. g.tree) (given_own x [])
 
@@ -50,7 +52,7 @@ length_maps body [] picks (inr i) = absurd i
 length_maps body (type ∷ types) picks i =
     let h = in_flat_map (λ at. map (λ rest. at ∷ rest) (maps body types)) picks (places_of type 0 body) i in
     let g = in_map (λ rest. h.0 ∷ rest) picks (maps body types) h.2 in
-    ap length g.2 ∙ ap (λ n. 1 + n) (length_maps body types g.0 g.1)
+    ap length g.2 ∙ ap (λ n. suc n) (length_maps body types g.0 g.1)
 
 -- what two functions give of a list, where they give the same of each of its elements
 flat_map_in : {A B : Type 0} (f g : A → List B) (xs : List A) → ((x : A) → In x xs → f x ≡ g x) → flat_map f xs ≡ flat_map g xs
@@ -133,10 +135,10 @@ kept_body task n s x (Some found) true own has standard =
 
 -- what is kept of the queries of a skeleton
 kept_skeleton : (task : TaskParts) (s : ℕ × Tree) → opened s.1 ≡ s.1 → kept task s.0 (queries_of task s.1) ≡ root_answers task s
-kept_skeleton task s open =
+kept_skeleton task s is_open =
     kept_of_joined task s.0 (queries_of_body task) (fillings task s.1)
     ∙ flat_map_in (λ x. kept task s.0 (queries_of_body task x)) (λ x. flat_map (answers_on task s.0 s.1) (filled_of task x)) (fillings task s.1)
-    (λ x i. kept_body task s.0 s.1 x (rows task.inputs task.constants x) (is_standard_tree task x) (refilled_is task s.1 x open i) refl refl)
+    (λ x i. kept_body task s.0 s.1 x (rows task.inputs task.constants x) (is_standard_tree task x) (refilled_is task s.1 x is_open i) refl refl)
     ∙ sym (flat_map_twice (answers_on task s.0 s.1) (filled_of task) (fillings task s.1))
     ∙ ap (flat_map (answers_on task s.0 s.1)) (fillings_kept task s.1)
 
@@ -154,7 +156,31 @@ answers_are task =
 
 -- the queries of a skeleton's standard fillings are of the grammar
 
-in_flat_map_of : {X Y : Type 0} (f : X → List Y) (y : Y) (x : X) (xs : List X) → In x xs → In y (f x) → In y (flat_map f xs)
-in_flat_map_of f y x [] i j = absurd i
-in_flat_map_of f y x (z ∷ xs) (inl e) j = in_front y (f z) (flat_map f xs) (subst (λ u. In y (f u)) e j)
-in_flat_map_of f y x (z ∷ xs) (inr i) j = in_back y (f z) (flat_map f xs) (in_flat_map_of f y x xs i j)
+all_in : {X : Type 0} (P : X → Type 0) (xs : List X) → ((x : X) → In x xs → P x) → All P xs
+all_in P [] each = All-nil P
+all_in P (x ∷ xs) each = All-cons P x xs (each x (inl refl)) (all_in P xs (λ y i. each y (inr i)))
+
+in_at : {X : Type 0} (xs : List X) (n : ℕ) (x : X) → slice_get xs n ≡ Some x → In x xs
+in_at [] n x there = cc
+in_at (y ∷ ys) zero x there = inl (sym (same_Some y x there))
+in_at (y ∷ ys) (suc n) x there = inr (in_at ys n x there)
+
+in_with_flags : (x : Tree) (picks : List ℕ) (distinct : Bool) → In (select_of x picks distinct) (with_flags x picks)
+in_with_flags x picks false = inl refl
+in_with_flags x picks true = inr (inl refl)
+
+pub fillings_fit : (task : TaskParts) → FaultsDecide task → FillingsFit task
+fillings_fit task decide n s there =
+    let listed : In s (skeletons task) = in_at (skeletons task) n s there in
+    let is_open = opened_skeletons task s listed in
+    all_in (FillingFits task s) (standard_fillings task s) (λ f i.
+    let h = in_kept (filled task) (is_filled task) f (fillings task s) i in
+    let own = refilled_is task s h.0 is_open h.1 in
+    let fits : FillingFits task s (filled task h.0) =
+    all_in (λ picks. (distinct : Bool) → query_fault task (query_of s (tree_preds h.0) picks distinct) ≡ None) (maps (columns task.inputs h.0) (types_of task.output)) (λ picks j distinct.
+    let q = select_of h.0 picks distinct in
+    let of_body : In q (queries_of_body task h.0) = in_flat (with_flags h.0) q picks (maps (columns task.inputs h.0) (types_of task.output)) j (in_with_flags h.0 picks distinct) in
+    let of_skeleton : In q (queries_of task s) = in_flat (queries_of_body task) q h.0 (fillings task s) h.1 of_body in
+    let of_task : In q (plain_queries task) = in_equal q _ _ (sym (plain_queries_are task)) (in_flat (queries_of task) q s (skeletons task) listed of_skeleton) in
+    ap (λ body. query_fault task (select_of body picks distinct)) own ∙ (decide q).1 (in_contains (plain_queries task) q of_task)) in
+    subst (FillingFits task s) (sym h.3) fits)

@@ -11,7 +11,7 @@ use Rattle.table_core.proofs.BagLaws.{same_cells_decides}
 use Rattle.query_core.specs.Firsts.{firsts}
 use Rattle.query_laws.proofs.MemberLaws.{in_back}
 use Rattle.query_laws.proofs.FirstCopyLaws.{in_firsts, once_firsts, firsts_single}
-use Rattle.root_search.proofs.FitLaws.{all_of, of_all, firsts_in, counted, found, bag_counts, in_first, in_second}
+use Rattle.root_search.proofs.RowCountLaws.{all_of, of_all, firsts_in, counted, found, bag_counts, in_first, in_second}
 
 -- two tests that hold of the same are one
 pub both_same : (a b : Bool) → (a ≡ true → b ≡ true) → (b ≡ true → a ≡ true) → a ≡ b

@@ -1,7 +1,8 @@
+pub mod AnswerLaws
 pub mod BitLaws
 pub mod CountLaws
-pub mod FitLaws
 pub mod NarrowLaws
+pub mod ReadLaws
 pub mod ReadingLaws
+pub mod RowCountLaws
 pub mod StepLaws
-pub mod WalkLaws

@@ -104,20 +104,6 @@ module _ (types : List ColType) (candidates output : List Row) (wanted : List Co
       ∙ over_offers types candidates output picks rest (firsts output) (length picks) (places_of h.0 0 types)
       ∙ ap (flat_map (λ o. readings_from types candidates output (picks ++ o.at ∷ []) rest)) (sym h.2)
 
--- the targets of a map, one column more
-pub targets_more : (picks : List ℕ) (candidates output : List Row) (k : ℕ) (ts made : List Target) (ms : List (List Bool)) → k < length picks
-    → ts ≡ begun_targets (length picks) (take k picks) candidates output → ms ≡ map (cell_mask candidates k (slice_index_or picks k 0)) (firsts output) → made ≡ narrowed ts ms
-    → made ≡ begun_targets (length picks) (take (k + 1) picks) candidates output
-targets_more picks candidates output k ts made ms below is_t is_m is =
-    let at = slice_index_or picks k 0 in
-    let long : k ≡ length (take k picks) = omega (arith, length-take k picks) in
-    is
-    ∙ left_by (length picks) (take k picks) at candidates output ts ms is_t (is_m ∙ ap (λ p. map (cell_mask candidates p at) (firsts output)) long)
-    ∙ ap (λ ps. begun_targets (length picks) ps candidates output) (sym (take_more picks k 0 below))
-
-pub targets_all : (picks : List ℕ) (candidates output : List Row) (k : ℕ) (ts : List Target) → length picks ≤ k → ts ≡ begun_targets (length picks) (take k picks) candidates output → ts ≡ targets picks candidates output
-targets_all picks candidates output k ts past is = is ∙ ap (λ ps. begun_targets (length picks) ps candidates output) (take_all k picks past) ∙ begun_all picks candidates output
-
 -- a walk begins with the empty map
 readings_whole : (types : List ColType) (candidates : List Row) (table : TableData) → readings_from types candidates table.rows [] (types_of table) ≡ readings types candidates table
 readings_whole types candidates table = ap (enough_of candidates table.rows) (map-id (maps types (types_of table)))

@@ -1,9 +1,8 @@
 pub mod Answers
-pub mod Fitting
 pub mod Laws
 pub mod Narrow
 pub mod Readings
+pub mod Reads
 pub mod Targets
 pub mod Walk
 pub mod WalkState
-pub mod Reads

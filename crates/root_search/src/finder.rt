@@ -138,7 +138,6 @@ impl Finder<'_> {
 }
 
 impl Receiver for Finder<'_> {
-    ghost use Rattle.std.specs.Prelude.{Unit};
     ghost use Rattle.query_core.specs.Answers.{RankedQuery};
     ghost use Rattle.query_core.specs.View.{tree};
     ghost use Rattle.rank_core.specs.View.{ranked_queries};
@@ -147,9 +146,13 @@ impl Receiver for Finder<'_> {
     type Store = Vec<Ranked>;
 
     ghost Item = { RankedQuery };
+
     ghost held = { λ f store. ranked_queries store };
+
     ghost gives = { λ f filled. answers_on f.task.now f.number (tree f.skeleton.now) filled };
+
     ghost typed = { λ f types. Unit };
+
     ghost accepts = { λ f filled. FillingFits f.task.now (tree f.skeleton.now) filled };
 
     fn take(
@@ -158,11 +161,11 @@ impl Receiver for Finder<'_> {
         offer: &Offer<'_>,
         store: &mut Vec<Ranked>,
     ) -> Result<(), OutOfMemory> {
-        let readings = readings(alloc, offer.types, offer.candidates, self.task.output())?;
-        let readings = readings.as_slice();
+        let list = readings(alloc, offer.types, offer.candidates, self.task.output())?;
+        let readings = list.as_slice();
         for choice in offer.choices {
             let reads = Reads {
-                offer,
+                offer: &*offer,
                 choice,
                 readings,
             };

@@ -2,13 +2,10 @@ ghost use Rattle.std.specs.Prelude.{ℕ, Bool, List};
 ghost use Rattle.value_core.specs.declared.value.ColType.{ColType};
 ghost use Rattle.table_core.specs.Rows.{Row, TableData};
 ghost use Rattle.root_search.specs.declared.target.Target.{Target};
-ghost use Rattle.root_search.specs.Laws.{GivenFits, GivenByBits, NoneByFew, ReadingsFit};
+ghost use Rattle.root_search.specs.Laws.{GivenByBits, NoneByFew, ReadingsFit, FillingsFit, AnswersByRoots};
 
-/// The law of maps that fit: a map that gives the output is one of them.
-#[tactic(auto, using(crate::proofs::FitLaws::given_fits))]
-pub fn what_gives_fits()
-    ensures { (rows output : List Row) (picks : List ℕ) (distinct : Bool) → GivenFits rows output picks distinct }
-{}
+use query_laws::faults_decide_membership;
+use table_core::{Task, TaskParts};
 
 /// The law of answers by bits: the candidates that some bits keep give an output exactly where the bits give its targets.
 #[tactic(auto, using(crate::proofs::BitLaws::given_by_bits))]
@@ -26,4 +23,18 @@ pub fn too_few_give_nothing()
 #[tactic(auto, using(crate::proofs::StepLaws::readings_fit))]
 pub fn readings_have_their_targets()
     ensures { (types : List ColType) (candidates : List Row) (table : TableData) (bits : List Bool) → ReadingsFit types candidates table bits }
+{}
+
+/// The law of the queries of standard fillings: each is of the grammar.
+#[tactic(auto, using(crate::proofs::AnswerLaws::fillings_fit))]
+pub fn fillings_are_of_grammar(task: &Task)
+    ensures { FillingsFit task.now }
+{
+    faults_decide_membership(task);
+}
+
+/// The law of a task's answers: they are those of its skeletons' standard fillings, in order.
+#[tactic(auto, using(crate::proofs::AnswerLaws::answers_are))]
+pub fn answers_are_by_roots(task: &TaskParts)
+    ensures { AnswersByRoots task.now }
 {}

@@ -4,14 +4,14 @@
 mod finder;
 mod laws;
 mod offer;
+mod places;
 mod reading;
 mod refill;
 mod root;
 mod target;
 
 pub use laws::{
-    bits_give_what_rows_give, readings_have_their_targets, too_few_give_nothing, what_gives_fits,
+    answers_are_by_roots, bits_give_what_rows_give, fillings_are_of_grammar,
+    readings_have_their_targets, too_few_give_nothing,
 };
-pub use reading::{Reading, readings, targets};
 pub use root::push_answers;
-pub use target::{Target, are_enough, bits_give};

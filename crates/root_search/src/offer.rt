@@ -4,11 +4,11 @@ ghost use Rattle.table_core.specs.Bag.{same_cells};
 ghost use Rattle.query_core.specs.Firsts.{firsts};
 ghost use Rattle.root_search.specs.Walk.{cell_mask, offer_of, columns_of};
 
-use crate::fitting::{places_of, same_at};
+use crate::places::{places_of, same_at};
 use bit_rows::BitRow;
 use sqlite_items::Items;
 use std::alloc::Global;
-use table_core::{Tuple, same_cells};
+use table_core::Tuple;
 use value_core::{ColType, OutOfMemory, Value};
 
 /// A body column for a column of the output: which candidate rows have there the value of each row of the output.
@@ -16,39 +16,6 @@ use value_core::{ColType, OutOfMemory, Value};
 pub(crate) struct Offer {
     pub at: usize,
     pub masks: Items<BitRow>,
-}
-
-// Whether a row is among these rows.
-fn has_row(rows: &[Tuple], row: &[Value]) -> bool
-    ensures { result ≡ list_any (λ r. same_cells r row.now) rows.now }
-{
-    rows.iter().any(|r| same_cells(r.cells(), row))
-}
-
-// Appends a copy of a row, if it isn't among the rows before it.
-fn push_first(
-    alloc: Global,
-    out: &mut Items<Tuple>,
-    before: &[Tuple],
-    row: &Tuple,
-) -> Result<(), OutOfMemory>
-    ensures { OnOk result (out.new ≡ out.old ++ (if not (list_any (λ r. same_cells r row.now) before.now) then row.now ∷ [] else [])) }
-{
-    if !has_row(before, row.cells()) {
-        out.push(row.copy(alloc)?)?;
-    }
-    Ok(())
-}
-
-/// Each of these rows once, at its first place.
-pub(crate) fn first_rows(alloc: Global, rows: &[Tuple]) -> Result<Items<Tuple>, OutOfMemory>
-    ensures { IfOk result (λ out. out ≡ firsts rows.now) }
-{
-    let mut out = Items::new(alloc);
-    for i in 0..rows.len() {
-        push_first(alloc, &mut out, &rows[..i], &rows[i])?;
-    }
-    Ok(out)
 }
 
 // Which candidate rows have at a place the value that a row has at another.
@@ -68,8 +35,8 @@ fn cell_mask(
     BitRow::of(alloc, bits.as_slice())
 }
 
-/// Which candidate rows have at a place the value that each of some rows has at another.
-pub(crate) fn cell_masks(
+// Which candidate rows have at a place the value that each of some rows has at another.
+fn cell_masks(
     alloc: Global,
     candidates: &[Tuple],
     rows: &[Tuple],

@@ -1,13 +1,14 @@
 ghost use Rattle.std.specs.Prelude.{◌≡◌, ◌++◌, ◌∷◌, [], ◌<◌, ◌≤◌, ◌+◌, length, drop, map, replicate, true, All, IfOk, OnOk};
 ghost use Rattle.std.specs.List.{flat_map, AllZip};
 ghost use Rattle.root_search.specs.Narrow.{narrowed};
-ghost use Rattle.root_search.specs.Targets.{targets, are_enough};
+ghost use Rattle.root_search.specs.Targets.{are_enough};
 ghost use Rattle.root_search.specs.Readings.{readings};
 ghost use Rattle.root_search.specs.Walk.{begun_target};
 ghost use Rattle.root_search.specs.WalkState.{HasItsColumns, IsOffer, targets_of, readings_of};
 
-use crate::offer::{Offer, cell_masks, columns_of, first_rows};
+use crate::offer::{Offer, columns_of};
 use crate::target::{Target, are_enough, narrowed, stay_enough};
+use bag_eval::first_rows;
 use bit_rows::BitRow;
 use query_core::table_types;
 use sqlite_items::{Items, at};
@@ -71,24 +72,6 @@ fn first_targets(
     let mut out = Items::new(alloc);
     for row in rows {
         out.push(first_target(alloc, width, candidates, output, row)?)?;
-    }
-    Ok(out)
-}
-
-/// The rows of an output, each once, as targets of a map.
-pub fn targets(
-    alloc: Global,
-    picks: &[usize],
-    candidates: &[Tuple],
-    output: &[Tuple],
-) -> Result<Items<Target>, OutOfMemory>
-    ensures { IfOk result (λ ts. ts ≡ targets picks.now candidates.now output.now) }
-{
-    let rows = first_rows(alloc, output)?;
-    let mut out = first_targets(alloc, picks.len(), candidates, output, rows.as_slice())?;
-    for place in 0..picks.len() {
-        let masks = cell_masks(alloc, candidates, rows.as_slice(), place, picks[place])?;
-        out = narrowed(alloc, out.as_slice(), masks.as_slice())?;
     }
     Ok(out)
 }

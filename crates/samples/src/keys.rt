@@ -4,20 +4,23 @@ ghost use Rattle.std.specs.Prelude.{IfOk};
 ghost use Rattle.rank_core.specs.View.{ascends, ranked_queries};
 
 use crate::fault::Failed;
-use crate::make::{Shape, Tree, parts, query};
+use crate::make::{Shape, Tree, query, task};
 use predicate_core::{Atom, Pred};
+use query_core::belongs;
 use rank_core::{Ranked, before, key, key_order, merge, sort};
 use std::alloc::Global;
-use table_core::TaskParts;
+use table_core::Task;
 use value_core::CmpOp;
 
 const SHAPE: Shape = Shape {
+    inputs: &[("t", "a#"), ("u", "a# b#"), ("v", "a# b#"), ("w", "a# b#")],
     constants: "7",
+    numbers: [1, 1, 2, 25, 1],
     ..Shape::LEAST
 };
 
-// The number of a skeleton, a tree, a map, a flag and the numbers of predicates.
-type Case = (u32, Tree, &'static [usize], bool, &'static [u64]);
+// The number of a skeleton, a tree, a map and a flag.
+type Case = (u32, Tree, &'static [usize], bool);
 
 const BASE: &Tree = &Tree::Base(0);
 
@@ -25,60 +28,51 @@ const IS_NULL: Atom = Atom::IsNull(0);
 
 const IS_SEVEN: Atom = Atom::Const(0, CmpOp::Eq, 0);
 
-// Answers out of the order of their keys; those of the last two are equal.
+// Answers out of the order of their keys; those of two are equal.
 const CASES: &[Case] = &[
-    (0, Tree::Filter(BASE, Pred::One(IS_NULL)), &[0], true, &[1]),
+    (0, Tree::Filter(BASE, Pred::One(IS_NULL)), &[0], true),
     (
         0,
-        Tree::Filter(BASE, Pred::And2(IS_NULL, IS_NULL)),
+        Tree::Filter(BASE, Pred::And2(IS_SEVEN, IS_NULL)),
         &[0],
         false,
-        &[1],
     ),
-    (0, Tree::Filter(BASE, Pred::One(IS_NULL)), &[0], false, &[1]),
-    (0, Tree::Filter(BASE, Pred::Always), &[0], true, &[0]),
-    (0, Tree::Filter(BASE, Pred::Always), &[0], false, &[0]),
-    (1, Tree::Base(0), &[0], false, &[]),
-    (0, Tree::Base(1), &[1], false, &[]),
+    (0, Tree::Filter(BASE, Pred::One(IS_NULL)), &[0], false),
+    (1, Tree::Base(0), &[0], false),
+    (0, Tree::Base(1), &[1], false),
+    (0, Tree::Base(1), &[0], false),
     (
         0,
-        Tree::Filter(BASE, Pred::Or2(IS_NULL, IS_SEVEN)),
+        Tree::Filter(BASE, Pred::Or2(IS_SEVEN, IS_NULL)),
         &[0],
         false,
-        &[2],
     ),
-    (
-        1,
-        Tree::Filter(BASE, Pred::One(IS_SEVEN)),
-        &[0],
-        false,
-        &[1],
-    ),
-    (0, Tree::Base(2), &[0, 1], false, &[]),
-    (0, Tree::Base(3), &[0, 1], false, &[]),
+    (1, Tree::Filter(BASE, Pred::One(IS_SEVEN)), &[0], false),
+    (0, Tree::Base(2), &[0], false),
 ];
 
 // Three lists of answers; a key stands in each of them.
 const FIRST: &[Case] = &[
-    (1, Tree::Base(0), &[0], false, &[]),
-    (0, Tree::Base(4), &[1], false, &[]),
+    (1, Tree::Base(0), &[0], false),
+    (0, Tree::Base(3), &[1], false),
 ];
 
-const SECOND: &[Case] = &[(0, Tree::Base(2), &[1], false, &[])];
+const SECOND: &[Case] = &[(0, Tree::Base(1), &[1], false)];
 
 const THIRD: &[Case] = &[
-    (0, Tree::Base(3), &[1], false, &[]),
-    (0, Tree::Base(1), &[0], false, &[]),
+    (0, Tree::Base(2), &[1], false),
+    (0, Tree::Base(1), &[0], false),
 ];
 
-fn ranked(alloc: Global, task: &TaskParts, case: &Case) -> Result<Ranked, Failed> {
+fn ranked(alloc: Global, task: &Task, case: &Case) -> Result<Ranked, Failed> {
     let query = query(alloc, &case.1, case.2, case.3)?;
-    let key = key(alloc, task, case.0, &query, case.4)?;
+    belongs(alloc, task, &query)?;
+    let key = key(task, case.0, &query);
     Ok(Ranked { key, query })
 }
 
 // The answers of some cases.
-fn all_ranked(alloc: Global, task: &TaskParts, cases: &[Case]) -> Result<Vec<Ranked>, Failed> {
+fn all_ranked(alloc: Global, task: &Task, cases: &[Case]) -> Result<Vec<Ranked>, Failed> {
     let mut list = Vec::new(alloc);
     for case in cases {
         list.push(ranked(alloc, task, case)?)?;
@@ -91,7 +85,7 @@ fn all_ranked(alloc: Global, task: &TaskParts, cases: &[Case]) -> Result<Vec<Ran
 fn sorted(alloc: Global, cases: &[Case]) -> Result<Vec<Ranked>, Failed>
     ensures { IfOk result (λ list. ascends (ranked_queries list)) }
 {
-    let mut list = all_ranked(alloc, &parts(alloc, &SHAPE)?, cases)?;
+    let mut list = all_ranked(alloc, &task(alloc, &SHAPE)?, cases)?;
     sort(&mut list)?;
     Ok(list)
 }

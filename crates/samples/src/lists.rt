@@ -4,8 +4,8 @@ use crate::fault::Failed;
 use crate::make::{table, values};
 use crate::show::Rows;
 use bag_eval::{
-    cross_rows, first_rows, gives_rows, group_tuples, has_double_selected, join_pairs, keep_rows,
-    keeps_all_rows, left_join_pairs, select_rows, unite_rows,
+    cross_rows, first_rows, group_tuples, join_pairs, keep_rows, keeps_all_rows, left_join_pairs,
+    select_rows, unite_rows,
 };
 use predicate_core::{Atom, Pred};
 use query_core::{Agg, Uniting};
@@ -149,23 +149,6 @@ const CASES: &[Case] = &[
     ),
 ];
 
-// Outputs of one column.
-const OUTPUTS: &[&str] = &[
-    "b#\n-\n10\n10\n-",
-    "b#\n-\n10\n-\n-",
-    "b#\n10\n10\n-",
-    "b#\n-\n10",
-];
-
-// Whether the second column of some rows gives an output, all of it or each row once, and whether the output has a double.
-fn gives(rt: &impl Print, alloc: Global, table: &Table, output: &Table) -> Result<(), Failed> {
-    let all = gives_rows(alloc, &[1], false, table.tuples(), output.tuples())?;
-    let once = gives_rows(alloc, &[1], true, table.tuples(), output.tuples())?;
-    let double = has_double_selected(&[0], output.tuples());
-    println!(rt; "given: {all}, distinct: {once}, has a double: {double}")?;
-    Ok(())
-}
-
 // Whether predicates keep all of some rows.
 fn keeps_all(rt: &impl Print, ones: &[Value], table: &Table) -> Result<(), Failed> {
     for pred in [Pred::Always, ONE, NOT_ONE, SECOND_NULL, GREATER] {
@@ -175,17 +158,9 @@ fn keeps_all(rt: &impl Print, ones: &[Value], table: &Table) -> Result<(), Faile
     Ok(())
 }
 
-fn all_given(rt: &impl Print, alloc: Global, rows: &Table, outputs: &[&str]) -> Result<(), Failed> {
-    for output in outputs {
-        gives(rt, alloc, rows, &table(alloc, "o", output)?)?;
-    }
-    Ok(())
-}
-
 pub fn samples(rt: &impl Print, alloc: Global) -> Result<(), Failed> {
     let ones = values(alloc, "1")?;
     all_shown(rt, alloc, ones.as_slice(), CASES)?;
     let rows = table(alloc, "t", TABLE)?;
-    keeps_all(rt, ones.as_slice(), &rows)?;
-    all_given(rt, alloc, &rows, OUTPUTS)
+    keeps_all(rt, ones.as_slice(), &rows)
 }

@@ -16,10 +16,10 @@ loop-k-preserved c =
     let kept : c.unwrap_or-kept.result ≡ bit = c.unwrap_or-kept.ensures ∙ ap (λ o. unwrap_or o false) c.bit.ensures in
     let none : (so_far && not bit) ≡ not (list_any (λ x. x) (take (k + 1) (drop from bits))) = sym (none_more bits from k within) in (
       c.in_ok-push.ensures.items
-      ∙ ap (λ t. t ++ c.unwrap_or-kept.result ∷ []) c.loop-k.invariant.0
-      ∙ append_assoc c.args.out.now.items (take k (drop from bits)) (c.unwrap_or-kept.result ∷ [])
-      ∙ ap (λ b. c.args.out.now.items ++ (take k (drop from bits) ++ b ∷ [])) kept
-      ∙ ap (λ t. c.args.out.now.items ++ t) (sym (take_bit bits from k within)),
+          ∙ ap (λ t. t ++ c.unwrap_or-kept.result ∷ []) c.loop-k.invariant.0
+          ∙ append_assoc c.args.out.now.items (take k (drop from bits)) (c.unwrap_or-kept.result ∷ [])
+          ∙ ap (λ b. c.args.out.now.items ++ (take k (drop from bits) ++ b ∷ [])) kept
+          ∙ ap (λ t. c.args.out.now.items ++ t) (sym (take_bit bits from k within)),
       elim c.if-alone.branch [
         | then-alone w ↦ and_then c.loop-k.alone so_far (not bit) c.if-alone.alone c.loop-k.invariant.1 w.if-alone.true (w.alone-is ∙ ap not kept) ∙ none
         | else-alone w ↦ and_else c.loop-k.alone so_far (not bit) c.if-alone.alone c.loop-k.invariant.1 w.if-alone.false (w.alone-is ∙ w.if-alone.false) ∙ none

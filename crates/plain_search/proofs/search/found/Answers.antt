@@ -1,0 +1,21 @@
+use Rattle.std.proofs.Common.{arith, sym, ap, ◌∙◌}
+use Rattle.std.specs.Prelude.{slice_get}
+use Rattle.query_core.specs.View.{tree}
+use Rattle.rank_core.specs.View.{ranked_queries}
+use Rattle.skeleton_graph.specs.Nodes.{trees_of}
+use Rattle.skeleton_graph.proofs.TreeLaws.{trees_size}
+use Rattle.plain_search.proofs.FoundLaws.{found_all, found_more}
+use Rattle.plain_search.proofs.search.found.Goals as goal
+
+pub push_answers-requires : goal.push_answers-requires
+push_answers-requires c = ap (λ trees. slice_get trees c.loop-number.number) (sym c.requires) ∙ c.in_ok-skeleton.ensures
+
+pub loop-number-preserved : goal.loop-number-preserved
+loop-number-preserved c =
+    found_more c.args.task.now (trees_of c.args.graph.now.nodes) c.loop-number.number (tree c.in_ok-skeleton.skeleton) (ranked_queries c.loop-number.out) (ranked_queries c.push_answers.new.out) _
+    c.in_ok-skeleton.ensures c.loop-number.invariant c.in_ok-push_answers.ensures
+
+pub returns : goal.returns
+returns c =
+    let nodes = c.args.graph.now.nodes in
+    found_all c.args.task.now (trees_of nodes) c.loop-number.number (ranked_queries c.loop-number.out) _ (omega (arith, trees_size nodes, c.len-number-end.ensures, c.loop-number-test.false)) c.loop-number.invariant
