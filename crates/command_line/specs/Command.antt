@@ -33,3 +33,8 @@ command [] = None
 command (mode ∷ words) =
     if bytes_eq mode (codes "run") then run_of words
     else (if bytes_eq mode (codes "plain") then plain_of words else None)
+
+-- the task file of what is asked for
+abbrev pub file_of : Request → List ℕ
+file_of (Run file workers) = file
+file_of (Plain file) = file

@@ -9,6 +9,8 @@ use Rattle.sql_print.specs.Text.{text, text_of}
 use Rattle.task_read.specs.Told.{Told, untold, faulty, ready, WhenReady, WhenFaulty}
 use Rattle.task_read.specs.Task.{Files, IsRead, task_told}
 use Rattle.task_read.specs.declared.fault.TaskFault.{TaskFault}
+use Rattle.command_line.specs.Command.{file_of}
+use Rattle.command_line.specs.declared.request.Request.{Request}
 use Rattle.top_call.specs.Size.{has_few_skeletons}
 use Rattle.top_call.specs.Listing.{end_of, Prints, Answers, Runs, RunsWords}
 use Rattle.top_call.specs.Promise.{asked_file, IsReadIn_file, IfReady, IsRefused, RefusedAs, AnswersTask}
@@ -78,7 +80,12 @@ front_file told unread unread_now file old new before now WriteFault runs =
 front_file told unread unread_now file old new before now OutOfMemory runs = if_always (task_told told file) (λ t. GainedFront old new (text t)) (λ t. unchanged_front old new (text t) runs)
 front_file told unread unread_now file old new before now TooMany runs = if_always (task_told told file) (λ t. GainedFront old new (text t)) (λ t. unchanged_front old new (text t) runs.1)
 
-pub front_words : (told : Files) (unread unread_now : Counts) (file : Option (List ℕ)) (old new : Held) (before now : ℕ) (end : End)
-    → RunsWords told unread unread_now file old new before now end → IfReady (asked_file told file) (λ task. GainedFront old new (text task))
+pub front_words : (told : Files) (unread unread_now : Counts) (request : Option Request) (old new : Held) (before now : ℕ) (end : End)
+    → RunsWords told unread unread_now request old new before now end → IfReady (asked_file told request) (λ task. GainedFront old new (text task))
 front_words told unread unread_now None old new before now end runs = tt
-front_words told unread unread_now (Some file) old new before now end runs = front_file told unread unread_now file old new before now end runs
+front_words told unread unread_now (Some request) old new before now end runs = front_file told unread unread_now (file_of request) old new before now end runs
+
+-- where memory ran out before the words were read, nothing was done
+pub unread_words : (told : Files) (unread unread_now : Counts) (request : Option Request) (old new : Held) (before now : ℕ) → new ≡ old → RunsWords told unread unread_now request old new before now OutOfMemory
+unread_words told unread unread_now None old new before now same = (inr refl, same)
+unread_words told unread unread_now (Some request) old new before now same = same

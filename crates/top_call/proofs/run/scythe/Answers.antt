@@ -1,4 +1,4 @@
-use Rattle.top_call.specs.Command.{command}
+use Rattle.command_line.specs.Command.{command}
 use Rattle.top_call.specs.Line.{line}
 use Rattle.top_call.proofs.RunLaws.{front_words}
 use Rattle.top_call.proofs.WriteLaws.{either_front}
