@@ -159,7 +159,11 @@ const WORDS: &[&[&str]] = &[
 ];
 
 // How a run of these words ends.
-fn answered<R: Print + Threads + Sync>(rt: &R, alloc: Global, words: &'static [&'static str]) -> Result<(), Failed> {
+fn answered<R: Print + Threads + Sync>(
+    rt: &R,
+    alloc: Global,
+    words: &'static [&'static str],
+) -> Result<(), Failed> {
     let mut out = sink(alloc, 0)?;
     let mut err = sink(alloc, 0)?;
     let status = status(rt, alloc, &Run { words, ..LISTED }, &mut out, &mut err)?;

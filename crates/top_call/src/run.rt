@@ -22,7 +22,7 @@ use io_edge::{Folder, Gate, Sink};
 use std::alloc::Global;
 use std::thread::Threads;
 use task_read::{TaskEnd, read_task};
-use value_core::{Bytes, OutOfMemory};
+use value_core::Bytes;
 
 // The end of a run whose task wasn't read.
 fn end_of(unread: TaskEnd) -> End
@@ -49,7 +49,12 @@ fn run_file<F: Folder, K: Sink>(alloc: Global, file: &Bytes, folder: &mut F, out
 }
 
 // Does what is asked for: for now both modes list plainly, and no number of workers changes anything.
-fn run_request<F: Folder, K: Sink>(alloc: Global, request: &Request, folder: &mut F, out: &mut K) -> End
+fn run_request<F: Folder, K: Sink>(
+    alloc: Global,
+    request: &Request,
+    folder: &mut F,
+    out: &mut K,
+) -> End
     ensures runs { Runs (F.told folder.old) (F.faults folder.old) (F.faults folder.new) (file_of request.now) (K.written out.old) (K.written out.new) (K.faults out.old) (K.faults out.new) result }
     ensures still { UnlessReadFault result ((n : List ℕ) → F.faults folder.new n ≡ F.faults folder.old n) }
 {
@@ -64,10 +69,12 @@ fn run<F: Folder, K: Sink>(alloc: Global, words: &[Bytes], folder: &mut F, out: 
     ensures runs { RunsWords (F.told folder.old) (F.faults folder.old) (F.faults folder.new) (command words.now) (K.written out.old) (K.written out.new) (K.faults out.old) (K.faults out.new) result }
     ensures still { UnlessReadFault result ((n : List ℕ) → F.faults folder.new n ≡ F.faults folder.old n) }
 {
-    match command(alloc, words) {
-        Ok(Some(request)) => run_request(alloc, &request, folder, out),
-        Ok(None) => End::Usage,
-        Err(OutOfMemory) => End::OutOfMemory,
+    let Ok(request) = command(alloc, words) else {
+        return End::OutOfMemory;
+    };
+    match request {
+        Some(request) => run_request(alloc, &request, folder, out),
+        None => End::Usage,
     }
 }
 
@@ -99,7 +106,7 @@ pub fn scythe<R: Threads + Sync, F: Folder, K: Sink, E: Sink, G: Gate + Sync>(
     // At every end but `ReadFault`, also where a write failed, no read had failed.
     ensures still { UnlessReadFault result ((file : List ℕ) → F.faults folder.new file ≡ F.faults folder.old file) }
 
-    // Where no read failed, a task is answered unless a write failed or memory ran out, and what is wrong is told.
+    // Where no read failed, a task is answered unless a write failed or memory ran out, by `plain FILE` whatever its budget, and what is wrong is told.
     ensures complete { NoneUnread (F.told folder.old) (F.faults folder.old) (F.faults folder.new) words.now → ¬ Rose (K.faults out.old) (K.faults out.new) → IfReady (asked (F.told folder.old) words.now) (λ task. has_few_skeletons task ≡ true → AnswersTask task result) }
     ensures plain { (file : List ℕ) → command words.now ≡ Some (Plain file) → NoneUnread (F.told folder.old) (F.faults folder.old) (F.faults folder.new) words.now → ¬ Rose (K.faults out.old) (K.faults out.new) → IfReady (task_told (F.told folder.old) file) (λ task. has_few_skeletons task ≡ true → AnswersTask task result) }
     ensures refused { NoneUnread (F.told folder.old) (F.faults folder.old) (F.faults folder.new) words.now → RefusedAs (asked (F.told folder.old) words.now) result }
