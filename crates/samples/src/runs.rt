@@ -124,31 +124,52 @@ const RUNS: &[Run] = &[
         line: 26,
         ..LISTED
     },
-    Run {
-        words: &[],
-        ..LISTED
-    },
-    Run {
-        words: &["run"],
-        ..LISTED
-    },
-    Run {
-        words: &["find", "t.toml"],
-        ..LISTED
-    },
-    Run {
-        words: &["run", "a", "b"],
-        ..LISTED
-    },
-    Run {
-        words: &["run", ""],
-        ..LISTED
-    },
-    Run {
-        words: &["run", "-h"],
-        ..LISTED
-    },
 ];
+
+// Words that are understood, and words that aren't.
+const WORDS: &[&[&str]] = &[
+    &["plain", "t.toml"],
+    &["run", "t.toml", "--workers", "1"],
+    &["run", "--workers", "16", "t.toml"],
+    &["run", "--workers", "4", "none.toml"],
+    &["plain", "none.toml"],
+    &[],
+    &["run"],
+    &["plain"],
+    &["find", "t.toml"],
+    &["RUN", "t.toml"],
+    &["run", "a", "b"],
+    &["plain", "a", "b"],
+    &["run", ""],
+    &["run", "t.toml", ""],
+    &["run", "-h"],
+    &["run", "--", "t.toml"],
+    &["run", "t.toml", "--workers=2"],
+    &["run", "t.toml", "--workers"],
+    &["run", "--workers", "2"],
+    &["run", "--workers", "t.toml"],
+    &["run", "t.toml", "--workers", "0"],
+    &["run", "t.toml", "--workers", "17"],
+    &["run", "t.toml", "--workers", "04"],
+    &["run", "t.toml", "--workers", "+2"],
+    &["run", "t.toml", "--workers", "-2"],
+    &["run", "--workers", "2", "t.toml", "--workers", "2"],
+    &["run", "--workers", "2", "t.toml", "b"],
+    &["plain", "t.toml", "--workers", "2"],
+];
+
+// How a run of these words ends.
+fn answered<R: Print + Threads + Sync>(
+    rt: &R,
+    alloc: Global,
+    words: &'static [&'static str],
+) -> Result<(), Failed> {
+    let mut out = sink(alloc, 0)?;
+    let mut err = sink(alloc, 0)?;
+    let status = status(rt, alloc, &Run { words, ..LISTED }, &mut out, &mut err)?;
+    println!(rt; "{words:?}: status {status}, {} bytes", out.bytes().len())?;
+    Ok(())
+}
 
 // A run over a folder and sinks that never fail.
 fn sure<R: Print + Threads + Sync>(rt: &R, alloc: Global) -> Result<(), Failed> {
@@ -171,6 +192,9 @@ fn sure<R: Print + Threads + Sync>(rt: &R, alloc: Global) -> Result<(), Failed> 
 pub fn samples<R: Print + Threads + Sync>(rt: &R, alloc: Global) -> Result<(), Failed> {
     for run in RUNS {
         shown(rt, alloc, run)?;
+    }
+    for words in WORDS {
+        answered(rt, alloc, words)?;
     }
     sure(rt, alloc)
 }

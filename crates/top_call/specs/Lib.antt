@@ -1,4 +1,3 @@
-pub mod Command
 pub mod Size
 pub mod Line
 pub mod Listing

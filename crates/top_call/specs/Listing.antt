@@ -1,5 +1,5 @@
 -- What a run does that has its task.
-use Rattle.std.specs.Prelude.{◌≡◌, ℕ, ◌<◌, ◌==◌, Bool, true, false, List, [], length, Option, Some, None, if◌then◌else◌}
+use Rattle.std.specs.Prelude.{◌≡◌, ◌⊎◌, ℕ, ◌<◌, ◌==◌, Bool, true, false, List, [], length, Option, Some, None, if◌then◌else◌}
 use Rattle.io_edge.specs.Rose.{Rose}
 use Rattle.io_edge.specs.Gained.{Gained, GainedFront}
 use Rattle.table_core.specs.declared.task.TaskParts.{TaskParts}
@@ -7,6 +7,8 @@ use Rattle.query_core.specs.Answers.{answers}
 use Rattle.sql_print.specs.Text.{text}
 use Rattle.task_read.specs.Told.{WhenReady, WhenFaulty}
 use Rattle.task_read.specs.Task.{Files, IsRead, task_told}
+use Rattle.command_line.specs.Command.{file_of}
+use Rattle.command_line.specs.declared.request.Request.{Request}
 use Rattle.top_call.specs.Size.{has_few_skeletons}
 use Rattle.top_call.specs.declared.end.End.{End}
 use Rattle.top_call.specs.declared.end.End.TheVariants.{Listed, Empty, Usage, BadTask, ReadFault, WriteFault, OutOfMemory, TooMany}
@@ -54,6 +56,6 @@ Runs told unread unread_now file old new before now OutOfMemory = new ≡ old
 Runs told unread unread_now file old new before now TooMany = WhenReady (task_told told file) (λ task. has_few_skeletons task ≡ false) × (new ≡ old)
 
 -- what a run of words does, beside its end
-abbrev pub RunsWords : Files → (List ℕ → ℕ) → (List ℕ → ℕ) → Option (List ℕ) → Option (List ℕ) → Option (List ℕ) → ℕ → ℕ → End → Type 0
-RunsWords told unread unread_now None old new before now end = (end ≡ Usage) × (new ≡ old)
-RunsWords told unread unread_now (Some file) old new before now end = Runs told unread unread_now file old new before now end
+abbrev pub RunsWords : Files → (List ℕ → ℕ) → (List ℕ → ℕ) → Option Request → Option (List ℕ) → Option (List ℕ) → ℕ → ℕ → End → Type 0
+RunsWords told unread unread_now None old new before now end = ((end ≡ Usage) ⊎ (end ≡ OutOfMemory)) × (new ≡ old)
+RunsWords told unread unread_now (Some request) old new before now end = Runs told unread unread_now (file_of request) old new before now end

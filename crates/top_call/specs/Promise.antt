@@ -6,23 +6,24 @@ use Rattle.query_core.specs.Answers.{answers}
 use Rattle.task_read.specs.Told.{Told, untold, faulty, ready}
 use Rattle.task_read.specs.Task.{Files, IsRead, task_told}
 use Rattle.task_read.specs.declared.fault.TaskFault.{TaskFault}
-use Rattle.top_call.specs.Command.{command}
+use Rattle.command_line.specs.Command.{command, file_of}
+use Rattle.command_line.specs.declared.request.Request.{Request}
 use Rattle.top_call.specs.Size.{has_few_skeletons}
 use Rattle.top_call.specs.declared.end.End.{End}
 use Rattle.top_call.specs.declared.end.End.TheVariants.{Listed, Empty, Usage, BadTask, ReadFault, WriteFault, OutOfMemory, TooMany}
 
 -- the task that the words ask for, as the folder tells it; nothing is told where the words aren't understood
-abbrev pub asked_file : Files → Option (List ℕ) → Told TaskParts TaskFault
+abbrev pub asked_file : Files → Option Request → Told TaskParts TaskFault
 asked_file told None = untold
-asked_file told (Some file) = task_told told file
+asked_file told (Some request) = task_told told (file_of request)
 
 abbrev pub asked : Files → List (List ℕ) → Told TaskParts TaskFault
 asked told words = asked_file told (command words)
 
 -- a file is read in a run of these words, and all that is read before it is without fault
-abbrev pub IsReadIn_file : Files → Option (List ℕ) → List ℕ → Type 0
+abbrev pub IsReadIn_file : Files → Option Request → List ℕ → Type 0
 IsReadIn_file told None file = ⊥
-IsReadIn_file told (Some task) file = IsRead told task file
+IsReadIn_file told (Some request) file = IsRead told (file_of request) file
 
 abbrev pub IsReadIn : Files → List (List ℕ) → List ℕ → Type 0
 IsReadIn told words = IsReadIn_file told (command words)

@@ -1,7 +1,6 @@
 //! The top call: from words and files to the text of a task.
 #![tactic(auto)]
 
-mod command;
 mod end;
 mod fault_line;
 mod line;

@@ -1,21 +1,23 @@
-ghost use Rattle.std.specs.Prelude.{◌≡◌, ◌↔◌, ◌⊎◌, ℕ, ◌<◌, List, [], length, Option, None, true, false};
+ghost use Rattle.std.specs.Prelude.{◌≡◌, ◌↔◌, ◌⊎◌, ℕ, ◌<◌, List, [], length, Option, Some, None, true, false};
 ghost use Rattle.io_edge.specs.Rose.{Rose};
 ghost use Rattle.io_edge.specs.Gained.{Gained, GainedFront};
 ghost use Rattle.query_core.specs.Answers.{answers};
 ghost use Rattle.sql_print.specs.Text.{text};
 ghost use Rattle.task_read.specs.Told.{WhenReady, WhenFaulty};
+ghost use Rattle.task_read.specs.Task.{task_told};
 ghost use Rattle.task_read.specs.declared.fault.TaskFault.{TaskFault as Fault};
-ghost use Rattle.top_call.specs.Command.{command};
+ghost use Rattle.command_line.specs.Command.{command, file_of};
+ghost use Rattle.command_line.specs.declared.request.Request.TheVariants.{Plain};
 ghost use Rattle.top_call.specs.Size.{has_few_skeletons};
 ghost use Rattle.top_call.specs.Line.{line};
 ghost use Rattle.top_call.specs.Listing.{Runs, RunsWords};
 ghost use Rattle.top_call.specs.Promise.{asked, IsReadIn, NoneUnread, UnlessReadFault, IsUnwritten, IfReady, IsRefused, RefusedAs, AnswersTask};
-ghost use Rattle.top_call.specs.declared.end.End.TheVariants.{Listed, Empty, Usage, BadTask, ReadFault, WriteFault, TooMany};
+ghost use Rattle.top_call.specs.declared.end.End.TheVariants.{Listed, Empty, Usage, BadTask, ReadFault, WriteFault, OutOfMemory, TooMany};
 
-use crate::command::command;
 use crate::end::End;
 use crate::line::write_line;
 use crate::listing::answer;
+use command_line::{Request, command};
 use io_edge::{Folder, Gate, Sink};
 use std::alloc::Global;
 use std::thread::Threads;
@@ -46,18 +48,37 @@ fn run_file<F: Folder, K: Sink>(alloc: Global, file: &Bytes, folder: &mut F, out
     }
 }
 
+// Does what is asked for: for now both modes list plainly, and no number of workers changes anything.
+fn run_request<F: Folder, K: Sink>(
+    alloc: Global,
+    request: &Request,
+    folder: &mut F,
+    out: &mut K,
+) -> End
+    ensures runs { Runs (F.told folder.old) (F.faults folder.old) (F.faults folder.new) (file_of request.now) (K.written out.old) (K.written out.new) (K.faults out.old) (K.faults out.new) result }
+    ensures still { UnlessReadFault result ((n : List ℕ) → F.faults folder.new n ≡ F.faults folder.old n) }
+{
+    match request {
+        Request::Run { file, .. } => run_file(alloc, file, folder, out),
+        Request::Plain { file } => run_file(alloc, file, folder, out),
+    }
+}
+
 // Runs what the words ask for.
 fn run<F: Folder, K: Sink>(alloc: Global, words: &[Bytes], folder: &mut F, out: &mut K) -> End
     ensures runs { RunsWords (F.told folder.old) (F.faults folder.old) (F.faults folder.new) (command words.now) (K.written out.old) (K.written out.new) (K.faults out.old) (K.faults out.new) result }
     ensures still { UnlessReadFault result ((n : List ℕ) → F.faults folder.new n ≡ F.faults folder.old n) }
 {
-    match command(words) {
+    let Ok(request) = command(alloc, words) else {
+        return End::OutOfMemory;
+    };
+    match request {
+        Some(request) => run_request(alloc, &request, folder, out),
         None => End::Usage,
-        Some(file) => run_file(alloc, file, folder, out),
     }
 }
 
-/// Runs the program on its words: `run FILE` reads the task of a file and writes the text of its answers, best first.
+/// Runs the program on its words: `run FILE` reads the task of a file and writes the text of its answers, best first; `plain FILE` writes the same text, whatever the task's budget.
 ///
 /// `words` are those after the program's name. The text goes to `out`, and the line of any other end to `err`.
 pub fn scythe<R: Threads + Sync, F: Folder, K: Sink, E: Sink, G: Gate + Sync>(
@@ -74,7 +95,8 @@ pub fn scythe<R: Threads + Sync, F: Folder, K: Sink, E: Sink, G: Gate + Sync>(
     ensures empty { result ≡ Empty → WhenReady (asked (F.told folder.old) words.now) (λ task. (answers task ≡ []) × Gained (K.written out.old) (K.written out.new) (text task)) }
 
     // When each other end comes.
-    ensures usage { (result ≡ Usage) ↔ (command words.now ≡ None) }
+    ensures usage { result ≡ Usage → command words.now ≡ None }
+    ensures not_understood { command words.now ≡ None → (result ≡ Usage) ⊎ (result ≡ OutOfMemory) }
     ensures bad_task { (fault : Fault) → result ≡ BadTask fault → WhenFaulty (asked (F.told folder.old) words.now) (λ first. fault ≡ first) }
     ensures too_many { result ≡ TooMany → WhenReady (asked (F.told folder.old) words.now) (λ task. has_few_skeletons task ≡ false) }
     ensures read { (file : List ℕ) → result ≡ ReadFault file → IsReadIn (F.told folder.old) words.now file × Rose (F.faults folder.old file) (F.faults folder.new file) }
@@ -84,13 +106,15 @@ pub fn scythe<R: Threads + Sync, F: Folder, K: Sink, E: Sink, G: Gate + Sync>(
     // At every end but `ReadFault`, also where a write failed, no read had failed.
     ensures still { UnlessReadFault result ((file : List ℕ) → F.faults folder.new file ≡ F.faults folder.old file) }
 
-    // Where no read failed, a task is answered unless a write failed or memory ran out, and what is wrong is told.
+    // Where no read failed, a task is answered unless a write failed or memory ran out, by `plain FILE` whatever its budget, and what is wrong is told.
     ensures complete { NoneUnread (F.told folder.old) (F.faults folder.old) (F.faults folder.new) words.now → ¬ Rose (K.faults out.old) (K.faults out.new) → IfReady (asked (F.told folder.old) words.now) (λ task. has_few_skeletons task ≡ true → AnswersTask task result) }
+    ensures plain { (file : List ℕ) → command words.now ≡ Some (Plain file) → NoneUnread (F.told folder.old) (F.faults folder.old) (F.faults folder.new) words.now → ¬ Rose (K.faults out.old) (K.faults out.new) → IfReady (task_told (F.told folder.old) file) (λ task. has_few_skeletons task ≡ true → AnswersTask task result) }
     ensures refused { NoneUnread (F.told folder.old) (F.faults folder.old) (F.faults folder.new) words.now → RefusedAs (asked (F.told folder.old) words.now) result }
 
     // What was written.
     ensures out_front { IfReady (asked (F.told folder.old) words.now) (λ task. GainedFront (K.written out.old) (K.written out.new) (text task)) }
     ensures out_refused { IsRefused (asked (F.told folder.old) words.now) → K.written out.new ≡ K.written out.old }
+    ensures out_unasked { command words.now ≡ None → K.written out.new ≡ K.written out.old }
     ensures out_kept { IsUnwritten result → K.written out.new ≡ K.written out.old }
     ensures err_front { GainedFront (E.written err.old) (E.written err.new) (line result) }
     ensures err_whole { Gained (E.written err.old) (E.written err.new) (line result) ⊎ Rose (E.faults err.old) (E.faults err.new) }

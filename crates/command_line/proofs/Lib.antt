@@ -1,0 +1,4 @@
+pub mod WalkLaws
+pub mod ReadingLaws
+pub mod WordLaws
+pub mod CommandLaws
