@@ -1,6 +1,6 @@
 -- The first predicates of classes are the standard ones.
-use Rattle.std.proofs.Common.{◌≡◌, ℕ, zero, suc, ◌+◌, Bool, true, false, not, ◌&&◌, ◌==◌, cond, List, [], ◌∷◌, ◌++◌, map, Option, Some, None, refl, sym, ap, subst, ◌∙◌, arith, inl, inr, eq-eqb, length, get_or, ◌<◌, ◌≤◌}
-use Rattle.std.specs.Prelude.{filter, find, slice_get, unwrap_or}
+use Rattle.std.proofs.Common.{◌≡◌, ℕ, zero, suc, ◌+◌, Bool, true, false, not, ◌&&◌, ◌==◌, cond, List, [], ◌∷◌, map, Option, Some, None, refl, sym, ap, subst, ◌∙◌, arith, inl, inr, eq-eqb, length, get_or, ◌<◌, ◌≤◌}
+use Rattle.std.specs.Prelude.{filter, find, slice_get}
 use Rattle.std.specs.List.{position_or_len, enumerate_from}
 use Rattle.std.proofs.lemmas.Bool.{cases_Bool, false≢true, eqb-true}
 use Rattle.std.proofs.lemmas.List.{length-map}
@@ -17,7 +17,7 @@ use Rattle.predicate_core.specs.declared.pred.Pred.TheVariants.{One}
 use Rattle.predicate_core.proofs.OnceLaws.{numbered_by_place}
 use Rattle.predicate_core.proofs.SameLaws.{same_pred_decides}
 use Rattle.table_core.specs.Rows.{Row}
-use Rattle.query_core.specs.Standard.{same_bool, alike, first_alike, is_first_alike}
+use Rattle.query_core.specs.Standard.{same_bool, alike, is_first_alike}
 use Rattle.bit_rows.specs.Bits.{same_bits}
 use Rattle.bit_classes.specs.declared.class.Class.{Class}
 use Rattle.bit_classes.specs.Classes.{class_of, stands_first, classes_of}

@@ -1,7 +1,7 @@
 -- What rows of bits keep of lists, by parts and by tests.
 use Rattle.std.proofs.Common.{◌≡◌, ℕ, zero, suc, ◌+◌, ◌-◌, ◌*◌, append_assoc, Bool, true, false, not, ◌&&◌, Some, List, [], ◌∷◌, ◌++◌, map, take, drop, replicate, refl, sym, ap, ◌∙◌, arith, length, ◌≤◌, ◌<◌, if◌then◌else◌}
 use Rattle.std.specs.Prelude.{filter, slice_get, unwrap_or}
-use Rattle.std.specs.List.{flat_map, list_any}
+use Rattle.std.specs.List.{list_any}
 use Rattle.std.proofs.lemmas.List.{map-append, length-map, length-append, length-take-le, length-drop, append-nil, take_at, drop_at, drop-drop, drop_all}
 use Rattle.std.proofs.lemmas.List.Elements.{filter-append}
 use Rattle.value_core.specs.declared.value.Value.{Value}

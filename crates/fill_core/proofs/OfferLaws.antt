@@ -1,7 +1,7 @@
 -- The fillings that offers are.
-use Rattle.std.proofs.Common.{◌≡◌, ℕ, zero, suc, ◌*◌, ◌<◌, arith, get_or, Bool, true, false, not, ◌&&◌, List, [], ◌∷◌, ◌++◌, map, refl, sym, ap, ap₂, ◌∙◌, length, if◌then◌else◌, subst}
+use Rattle.std.proofs.Common.{◌≡◌, ℕ, zero, suc, ◌*◌, ◌<◌, arith, get_or, Bool, true, false, not, List, [], ◌∷◌, ◌++◌, map, refl, sym, ap, ap₂, ◌∙◌, length, if◌then◌else◌}
 use Rattle.std.specs.Prelude.{filter, All}
-use Rattle.std.specs.List.{flat_map, list_all}
+use Rattle.std.specs.List.{flat_map}
 use Rattle.std.proofs.lemmas.List.{append-nil, length-map, length-replicate}
 use Rattle.std.proofs.lemmas.List.Elements.{All-cons, All-nil, All-filter, All-weaker, All-map, All-same, All-head, All-tail}
 use Rattle.std.proofs.lemmas.List.Folds.{list_all-map}
@@ -10,15 +10,11 @@ use Rattle.predicate_core.specs.declared.pred.Pred.{Pred}
 use Rattle.predicate_core.specs.Truth.{keeps}
 use Rattle.table_core.specs.Rows.{Row}
 use Rattle.table_core.specs.declared.task.TaskParts.{TaskParts}
-use Rattle.bit_rows.specs.Masked.{masked}
-use Rattle.bit_classes.specs.Laws.{kept_vector}
 use Rattle.query_core.specs.Joins.{crossed, crossed_and_padded}
 use Rattle.query_core.specs.Grammar.{predicates}
 use Rattle.query_core.specs.Standard.{is_first, keeps_all}
 use Rattle.query_core.specs.Filled.{Filled, may_filter, filled_filter, filled_filters, first_preds, filled_pair, filled_pairs}
-use Rattle.query_core.specs.declared.kinds.Pairing.{Pairing}
 use Rattle.query_core.specs.declared.kinds.Pairing.TheVariants.{Join, Left}
-use Rattle.query_core.proofs.MapLaws.{map_twice}
 use Rattle.fill_core.specs.Choices.{chosen, hole_choices, drops_some, every, with_alone, left_choice}
 use Rattle.fill_core.specs.Offers.{filled_by, filled_by_all, Gathered}
 use Rattle.fill_core.specs.declared.choice.Choice.{Choice}

@@ -1,5 +1,5 @@
 -- What nodes make of their parts' rows are the standard fillings.
-use Rattle.std.proofs.Common.{◌≡◌, ℕ, ◌≤◌, List, [], ◌∷◌, ◌++◌, map, drop, length, refl, sym, ap, ◌∙◌, Option, Some}
+use Rattle.std.proofs.Common.{◌≡◌, ℕ, ◌≤◌, List, [], ◌∷◌, ◌++◌, drop, length, refl, sym, ap, ◌∙◌, Some}
 use Rattle.std.specs.Prelude.{All}
 use Rattle.std.specs.List.{flat_map}
 use Rattle.std.proofs.lemmas.List.{append-nil, drop_all}
@@ -21,13 +21,12 @@ use Rattle.query_core.proofs.MapLaws.{flat_map_same}
 use Rattle.query_laws.specs.Filled.{unions_on, of_each_filled}
 use Rattle.query_laws.proofs.FilledLaws.{filter_filled, pair_filled, group_filled, union_filled}
 use Rattle.fill_core.specs.Offers.{filled_by_all}
-use Rattle.fill_core.specs.Sites.{unary_filled, binary_filled, binary_with}
+use Rattle.fill_core.specs.Sites.{unary_filled, binary_with}
 use Rattle.fill_core.specs.View.{entry_filled, entries_filled, row_filled}
 use Rattle.fill_core.specs.declared.choice.Choice.{Choice}
 use Rattle.fill_core.specs.declared.row.Entry.{Entry}
 use Rattle.fill_core.specs.declared.row.Row.{Row}
 use Rattle.fill_core.specs.declared.site.Unary.TheVariants as one
-use Rattle.fill_core.specs.declared.site.Binary.{Binary}
 use Rattle.fill_core.specs.declared.site.Binary.TheVariants as two
 
 -- each as a list of itself

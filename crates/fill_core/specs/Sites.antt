@@ -1,5 +1,5 @@
 -- What a node makes of its parts' entries.
-use Rattle.std.specs.Prelude.{◌≡◌, ℕ, List, [], ◌∷◌, ◌++◌, flat_map}
+use Rattle.std.specs.Prelude.{List, [], ◌∷◌, ◌++◌, flat_map}
 use Rattle.value_core.specs.declared.value.ColType.{ColType}
 use Rattle.table_core.specs.Rows.{types_of}
 use Rattle.table_core.specs.declared.task.TaskParts.{TaskParts}

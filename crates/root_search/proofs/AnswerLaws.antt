@@ -1,5 +1,5 @@
 -- The answers of a task are those of its skeletons' standard fillings, read off bits.
-use Rattle.std.proofs.Common.{◌≡◌, ◌+◌, ℕ, append_assoc, Bool, true, false, ◌&&◌, ◌||◌, not, ◌==◌, List, [], ◌∷◌, ◌++◌, map, length, Option, Some, None, is_some, refl, sym, ap, subst, ◌∙◌, inl, inr, zero, suc, eq-eqb, if◌then◌else◌}
+use Rattle.std.proofs.Common.{◌≡◌, ◌+◌, ℕ, append_assoc, Bool, true, false, ◌&&◌, ◌==◌, List, [], ◌∷◌, ◌++◌, map, length, Option, Some, None, is_some, refl, sym, ap, subst, ◌∙◌, inl, inr, zero, suc, eq-eqb, if◌then◌else◌}
 use Rattle.std.specs.Prelude.{filter as list_filter, slice_get, All}
 use Rattle.std.specs.List.{flat_map, enumerate_from}
 use Rattle.std.proofs.lemmas.List.{map-append, append-nil, length-map}
@@ -9,16 +9,15 @@ use Rattle.value_core.specs.declared.value.ColType.{ColType}
 use Rattle.predicate_core.specs.declared.pred.Pred.{Pred}
 use Rattle.predicate_core.proofs.OnceLists.{In, in_map}
 use Rattle.table_core.specs.Rows.{Row, types_of}
-use Rattle.table_core.specs.Bag.{same_rows, has_double}
 use Rattle.table_core.specs.declared.task.TaskParts.{TaskParts}
 use Rattle.query_core.specs.Tree.{Tree, Select}
 use Rattle.query_core.specs.Tree as t
-use Rattle.query_core.specs.Meaning.{columns, rows, selected, given_rows}
-use Rattle.query_core.specs.Grammar.{Numbered, maps, places_of, with_flags, queries_of_body, queries_of, fillings, numbered, queries, skeletons}
+use Rattle.query_core.specs.Meaning.{columns, rows}
+use Rattle.query_core.specs.Grammar.{Numbered, maps, places_of, with_flags, queries_of_body, queries_of, fillings, numbered, skeletons}
 use Rattle.query_core.specs.Membership.{query_fault}
 use Rattle.query_core.specs.Standard.{rows_or_none, is_standard_tree}
 use Rattle.query_core.specs.Answers.{RankedQuery, ranked, is_answer, found}
-use Rattle.query_core.specs.Filled.{Filled, tree_preds, is_filled, filled, standard_fillings}
+use Rattle.query_core.specs.Filled.{tree_preds, is_filled, filled, standard_fillings}
 use Rattle.query_core.proofs.MapLaws.{flat_map_twice, flat_map_none, kept_joined}
 use Rattle.query_laws.specs.Laws.{plain_queries, FaultsDecide}
 use Rattle.query_laws.proofs.FilledLaws.{filled_of, fillings_kept}

@@ -1,5 +1,5 @@
 -- The answers of a choice by the readings of its offer are those of its filling.
-use Rattle.std.proofs.Common.{◌≡◌, ℕ, zero, suc, ◌<◌, arith, Bool, true, false, List, [], ◌∷◌, ◌++◌, map, get_or, drop, ◌≤◌, None, refl, sym, ap, ap₂, ◌∙◌, length, if◌then◌else◌}
+use Rattle.std.proofs.Common.{◌≡◌, ℕ, ◌<◌, arith, Bool, true, false, List, [], ◌∷◌, ◌++◌, get_or, drop, ◌≤◌, None, refl, sym, ap, ap₂, ◌∙◌, length, if◌then◌else◌}
 use Rattle.std.specs.Prelude.{filter, All}
 use Rattle.std.specs.List.{flat_map}
 use Rattle.std.proofs.lemmas.List.{append-nil, drop_all}
@@ -18,9 +18,9 @@ use Rattle.bit_rows.specs.Masked.{masked}
 use Rattle.fill_core.specs.Offers.{filled_by, filled_by_all}
 use Rattle.fill_core.specs.declared.choice.Choice.{Choice}
 use Rattle.root_search.specs.Answers.{query_of, answers_by, answers_on, AreOfGrammar, FillingFits}
-use Rattle.root_search.specs.Reads.{preds_of, read_answer, read_answers, choice_answers}
+use Rattle.root_search.specs.Reads.{preds_of, read_answers, choice_answers}
 use Rattle.root_search.specs.Readings.{reading_of, readings}
-use Rattle.root_search.specs.Targets.{targets, are_enough, bits_give, rows_give}
+use Rattle.root_search.specs.Targets.{targets, are_enough, rows_give}
 use Rattle.root_search.specs.declared.reading.Reading.{Reading}
 use Rattle.root_search.proofs.BitLaws.{given_by_bits, none_by_few}
 use Rattle.root_search.proofs.StepLaws.{readings_fit}

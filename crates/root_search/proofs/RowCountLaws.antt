@@ -1,20 +1,16 @@
 -- How often rows stand in bags that are the same.
-use Rattle.std.proofs.Common.{◌≡◌, ◌≤◌, ℕ, suc, ◌+◌, ◌==◌, ◌||◌, Bool, true, false, cond, List, [], ◌∷◌, ◌++◌, unwrap_or, refl, sym, ap, ◌∙◌, arith, inl, inr}
-use Rattle.std.specs.Prelude.{slice_get, count_by}
+use Rattle.std.proofs.Common.{◌≡◌, ◌≤◌, ◌+◌, ◌==◌, ◌||◌, Bool, true, false, cond, List, [], ◌∷◌, ◌++◌, refl, sym, ap, ◌∙◌, arith, inl, inr}
+use Rattle.std.specs.Prelude.{count_by}
 use Rattle.std.specs.List.{list_all, list_any}
 use Rattle.std.proofs.lemmas.Bool.{and_parts, cases_Bool, eqb-true}
 use Rattle.std.proofs.lemmas.List.Sums.{sum_by-cons}
-use Rattle.value_core.specs.declared.value.Value.TheVariants.{Null}
-use Rattle.value_core.proofs.ValueLaws.{same_decides}
-use Rattle.predicate_core.specs.Truth.{value_at}
-use Rattle.predicate_core.proofs.OnceLists.{In, in_map}
+use Rattle.predicate_core.proofs.OnceLists.{In}
 use Rattle.table_core.specs.Rows.{Row}
 use Rattle.table_core.specs.Bag.{same_cells, count, same_rows}
 use Rattle.table_core.proofs.BagLaws.{same_cells_decides}
-use Rattle.query_core.specs.Firsts.{projected, firsts}
-use Rattle.query_core.specs.Meaning.{selected, given_rows}
-use Rattle.query_laws.proofs.MemberLaws.{in_front, in_back, map_in}
-use Rattle.query_laws.proofs.FirstCopyLaws.{in_part, part_firsts, in_firsts}
+use Rattle.query_core.specs.Firsts.{firsts}
+use Rattle.query_laws.proofs.MemberLaws.{in_front, in_back}
+use Rattle.query_laws.proofs.FirstCopyLaws.{in_part, part_firsts}
 
 -- a test of all elements, and of some
 pub all_of : {X : Type 0} (p : X → Bool) (xs : List X) → ((x : X) → In x xs → p x ≡ true) → list_all p xs ≡ true

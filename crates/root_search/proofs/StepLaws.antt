@@ -1,8 +1,8 @@
 -- The steps of a walk over maps.
-use Rattle.std.proofs.Common.{◌≡◌, refl, sym, ap, subst, ◌∙◌, ℕ, zero, suc, ◌+◌, ◌<◌, ◌≤◌, Bool, true, false, List, [], ◌∷◌, ◌++◌, length, map, take, drop, Some, None, arith}
+use Rattle.std.proofs.Common.{◌≡◌, refl, sym, ap, subst, ◌∙◌, ℕ, zero, suc, ◌+◌, ◌<◌, ◌≤◌, Bool, true, false, List, [], ◌∷◌, ◌++◌, length, map, drop, Some, None, arith}
 use Rattle.std.specs.Prelude.{slice_get, option_map, filter, All}
-use Rattle.std.specs.List.{flat_map, slice_index_or}
-use Rattle.std.proofs.lemmas.List.{length-map, map-id, length-append, length-drop, length-take, take_more, take_all}
+use Rattle.std.specs.List.{flat_map}
+use Rattle.std.proofs.lemmas.List.{length-map, map-id, length-append, length-drop}
 use Rattle.std.proofs.lemmas.List.Elements.{All-nil, All-cons}
 use Rattle.std.proofs.lemmas.Option.{none-some, same_Some}
 use Rattle.value_core.specs.declared.value.ColType.{ColType}
@@ -18,7 +18,7 @@ use Rattle.root_search.specs.Readings.{reading_of, enough_of, readings}
 use Rattle.root_search.specs.Laws.{ReadingsFit}
 use Rattle.root_search.specs.Walk.{begun_target, begun_targets, cell_mask, offer_of, offers, columns_of, readings_from}
 use Rattle.root_search.proofs.NarrowLaws.{Fitting}
-use Rattle.root_search.proofs.ReadingLaws.{narrowed_next, begun_all, none_from, whole_reading, readings_next, over_offers, column_at, drop_there}
+use Rattle.root_search.proofs.ReadingLaws.{narrowed_next, none_from, whole_reading, readings_next, over_offers, column_at, drop_there}
 
 -- masks of one list of candidates fit
 fitting_over : (width : ℕ) (picks : List ℕ) (candidates output : List Row) (place at : ℕ) (rows : List Row) → Fitting (map (begun_target width picks candidates output) rows) (map (cell_mask candidates place at) rows)

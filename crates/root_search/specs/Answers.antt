@@ -10,8 +10,6 @@ use Rattle.query_core.specs.Grammar.{maps}
 use Rattle.query_core.specs.Membership.{query_fault}
 use Rattle.query_core.specs.Answers.{RankedQuery, ranked}
 use Rattle.query_core.specs.Filled.{Filled, standard_fillings}
-use Rattle.query_core.specs.declared.kinds.Pairing.{Pairing}
-use Rattle.query_core.specs.declared.kinds.Uniting.{Uniting}
 use Rattle.root_search.specs.Targets.{rows_give}
 
 -- a tree whose holes were given the first of some predicates, and the predicates that are left

@@ -43,7 +43,11 @@ const CASES: &[(Shape, Tree)] = &[
 fn listed(rt: &impl Print, row: &Row) -> Result<(), Failed> {
     println!(rt; "{} fillings", row.entries.len())?;
     for entry in row.entries.as_slice() {
-        println!(rt; "{:?}:{}", entry.preds.as_slice(), Rows(entry.rows.as_slice()))?;
+        println!(rt;
+            "{:?}:{}",
+            entry.preds.as_slice(),
+            Rows(entry.rows.as_slice())
+        )?;
     }
     Ok(())
 }

@@ -1,4 +1,4 @@
-use Rattle.std.proofs.Common.{◌≡◌, Bool, List, map, length, Err, ◌<◌, refl, ap, ◌∙◌, arith}
+use Rattle.std.proofs.Common.{◌≡◌, Bool, List, map, length, Err, ◌<◌, refl, ap, ◌∙◌}
 use Rattle.std.proofs.lemmas.Result.{IfOk-weaker}
 use Rattle.predicate_core.specs.Atoms.{atom_list, pred_list}
 use Rattle.predicate_core.specs.declared.atom.Atom.{Atom}
@@ -6,7 +6,6 @@ use Rattle.predicate_core.specs.declared.pred.Pred.TheVariants.{One}
 use Rattle.bit_classes.specs.Classes.{classes_of}
 use Rattle.bit_classes.specs.Laws.{kept_vector}
 use Rattle.bit_classes.specs.Vectors.{vectors}
-use Rattle.fill_core.specs.declared.choice.Choice.{Choice}
 use Rattle.fill_core.specs.Choices.{class_choice}
 use Rattle.fill_core.proofs.ChoiceLaws.{choices_are, classes_are_few, not_past, vectors_wide}
 use Rattle.fill_core.proofs.choice.first_choices.Goals as goal

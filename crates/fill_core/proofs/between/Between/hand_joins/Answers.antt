@@ -1,4 +1,4 @@
-use Rattle.std.proofs.Common.{◌∙◌, ap, rules}
+use Rattle.std.proofs.Common.{◌∙◌, rules}
 use Rattle.std.proofs.lemmas.Result.{on_ok_weaker}
 use Rattle.fill_core.specs.View.{entry_filled}
 use Rattle.fill_core.proofs.OfferLaws.{joins_of, accepted, gathered}

@@ -1,4 +1,4 @@
-use Rattle.std.proofs.Common.{arith, sym}
+use Rattle.std.proofs.Common.{arith}
 use Rattle.fill_core.proofs.SiteLaws.{kept_all}
 use Rattle.fill_core.proofs.keeper.KeeperReceiver.take.Goals as goal
 

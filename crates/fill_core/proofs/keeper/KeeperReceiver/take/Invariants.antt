@@ -1,4 +1,4 @@
-use Rattle.std.proofs.Common.{◌≡◌, ◌++◌, map, drop}
+use Rattle.std.proofs.Common.{◌≡◌, ◌++◌, drop}
 use Rattle.fill_core.specs.Offers.{filled_by_all}
 use Rattle.fill_core.specs.View.{entries_filled}
 use Rattle.fill_core.proofs.keeper.KeeperReceiver.take.Given as goal

@@ -1,4 +1,4 @@
-use Rattle.std.proofs.Common.{◌≡◌, ap, ◌∙◌, ◌∷◌, [], List}
+use Rattle.std.proofs.Common.{ap, ◌∙◌, ◌∷◌, []}
 use Rattle.std.proofs.lemmas.Result.{on_ok_weaker}
 use Rattle.fill_core.specs.Offers.{filled_by_all}
 use Rattle.fill_core.proofs.OfferLaws.{whole_is, all_of_one, accepted, gathered}
