@@ -1,5 +1,5 @@
 -- What the query gives fits the output's columns and has at most 16 rows, so a number's task is within its limits.
-use Rattle.std.proofs.Common.{◌≡◌, refl, ℕ, zero, suc, ◌+◌, ◌-◌, ◌*◌, ◌<◌, ◌≤◌, Bool, true, false, not, List, [], ◌∷◌, ◌++◌, map, flat_map, length, Option, Some, None, if◌then◌else◌, inl, inr, arith}
+use Rattle.std.proofs.Common.{◌≡◌, refl, ℕ, zero, suc, ◌+◌, ◌-◌, ◌*◌, ◌<◌, ◌≤◌, Bool, true, not, List, [], ◌∷◌, ◌++◌, map, flat_map, length, Option, Some, None, if◌then◌else◌, inl, inr, arith}
 use Rattle.std.specs.Prelude.{filter}
 use Rattle.std.specs.List.{range_with_len, list_all}
 use Rattle.std.proofs.lemmas.Bool.{cases_Bool, false≢true, le-leb}
@@ -18,7 +18,6 @@ use Rattle.table_core.specs.Rows.{Row, are_typed, fits_columns}
 use Rattle.table_core.specs.Limits.{are_inputs_within, is_output_within, are_constants_within, first_bad_number, first_bad_part}
 use Rattle.query_core.specs.Firsts.{projected}
 use Rattle.query_core.specs.Joins.{kept_pairs, joined}
-use Rattle.query_core.specs.Meaning.{selected}
 use Rattle.gen_task.specs.Draws.{draw, state_after}
 use Rattle.gen_task.specs.Made.{whole, row_a, row_b, rows_a, rows_b, columns_a, columns_b, columns_out, rows_out, inputs, constants, made}
 
@@ -103,9 +102,9 @@ one_kept keep f h group is at zero = omega arith
 one_kept keep f h group is at (suc n) =
     elim (cases_Bool (keep (h (f at)))) [
       | inl kept ↦
-        let here = is at kept in
-        let rest = none_kept keep f h group is (at + 1) n (omega arith) in
-        rw (kept, rest) (omega arith)
+          let here = is at kept in
+          let rest = none_kept keep f h group is (at + 1) n (omega arith) in
+          rw (kept, rest) (omega arith)
       | inr left ↦ rw left (one_kept keep f h group is (at + 1) n)
     ]
 

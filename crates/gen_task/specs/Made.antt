@@ -3,7 +3,6 @@ use Rattle.std.specs.Prelude.{ℕ, ◌+◌, ◌-◌, ◌*◌, pos, false, List, 
 use Rattle.std.specs.List.{range_with_len}
 use Rattle.value_core.specs.declared.value.Value.{Value}
 use Rattle.value_core.specs.declared.value.Value.TheVariants.{Int, Text}
-use Rattle.value_core.specs.declared.value.ColType.{ColType}
 use Rattle.value_core.specs.declared.value.ColType.TheVariants as kind
 use Rattle.value_core.specs.declared.comparison.CmpOp.TheVariants.{Eq, Gt}
 use Rattle.predicate_core.specs.declared.atom.Atom.TheVariants.{Cols, Const}

@@ -40,11 +40,7 @@ fn copied_rows(alloc: Global, rows: &[Tuple]) -> Result<Vec<Tuple>, OutOfMemory>
 
 // What the query gives of these inputs and constants.
 #[tactic(auto, unfolding(crate::specs::Made::rows_out))]
-fn rows_out(
-    alloc: Global,
-    inputs: &[Table],
-    constants: &[Value],
-) -> Result<Vec<Tuple>, OutOfMemory>
+fn rows_out(alloc: Global, inputs: &[Table], constants: &[Value]) -> Result<Vec<Tuple>, OutOfMemory>
     ensures { IfOk result (λ rows. rows.items ≡ rows_out inputs.now constants.now) }
 {
     let query = query(alloc)?;

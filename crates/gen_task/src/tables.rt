@@ -47,7 +47,7 @@ fn row_a(alloc: Global, draws: &mut Draws, id: u8) -> Result<Tuple, OutOfMemory>
 }
 
 // The rows of table `a`.
-#[tactic(auto, using(crate::proofs::DrawLaws::state_after_none), unfolding(crate::specs::Made::rows_a))]
+#[tactic(auto, using(crate::proofs::DrawLaws::state_after_none, crate::proofs::DrawLaws::state_after_row, crate::proofs::DrawLaws::rows_a_more), unfolding(crate::specs::Made::rows_a))]
 fn rows_a(alloc: Global, draws: &mut Draws) -> Result<Vec<Tuple>, OutOfMemory>
     ensures rows { IfOk result (λ rows. rows.items ≡ rows_a draws.old.state) }
     ensures state { OnOk result (draws.new.state ≡ state_after draws.old.state 32) }
@@ -88,7 +88,7 @@ fn row_b(alloc: Global, draws: &mut Draws, grp: u8) -> Result<Tuple, OutOfMemory
 }
 
 // The rows of table `b`.
-#[tactic(auto, using(crate::proofs::DrawLaws::state_after_none), unfolding(crate::specs::Made::rows_b))]
+#[tactic(auto, using(crate::proofs::DrawLaws::state_after_none, crate::proofs::DrawLaws::state_after_more, crate::proofs::DrawLaws::rows_b_more), unfolding(crate::specs::Made::rows_b))]
 fn rows_b(alloc: Global, draws: &mut Draws) -> Result<Vec<Tuple>, OutOfMemory>
     ensures rows { IfOk result (λ rows. rows.items ≡ rows_b draws.old.state) }
     ensures state { OnOk result (draws.new.state ≡ state_after draws.old.state 16) }

@@ -56,32 +56,49 @@ pub fn make(alloc: Global, number: u64) -> Result<Task, OutOfMemory>
 #[cfg(test)]
 mod tests {
     use super::*;
-    use value_core::Value;
     use std::test::Fail;
 
-    // Group and value of each row of table `a` of number 0, computed apart from this program.
+    // `grp` and `val` of the rows of table `a` of number 0, computed apart from this program.
     const ROWS_OF_ZERO: [(i64, i64); 16] = [
-        (15, 24), (1, 36), (13, 91), (8, 75), (0, 39), (15, 82), (6, 45), (4, 22),
-        (9, 78), (11, 83), (14, 69), (15, 38), (13, 83), (1, 51), (3, 42), (9, 76),
+        (15, 24),
+        (1, 36),
+        (13, 91),
+        (8, 75),
+        (0, 39),
+        (15, 82),
+        (6, 45),
+        (4, 22),
+        (9, 78),
+        (11, 83),
+        (14, 69),
+        (15, 38),
+        (13, 83),
+        (1, 51),
+        (3, 42),
+        (9, 76),
     ];
+
+    fn is_number(value: &Value, number: i64) -> bool {
+        match value {
+            Value::Int(n) => *n == number,
+            Value::Null | Value::Text(_) => false,
+        }
+    }
 
     #[test]
     fn rows_of_zero(rt: HostRuntime) -> Result<(), Fail> {
         let task = make(rt.alloc(), 0)?;
         let table = task.inputs().first().ok_or("no input")?;
-        let mut i = 0;
-        for row in table.tuples() {
-            assert!(rt; i < 16);
-            match row.cells() {
-                [Value::Int(id), Value::Int(grp), Value::Int(val)] => {
-                    assert_eq!(rt; *id, i as i64 + 1);
-                    assert_eq!(rt; (*grp, *val), ROWS_OF_ZERO[i]);
-                }
-                _ => return Err("another row")?,
-            }
-            i += 1;
+        assert_eq!(rt; table.tuples().len(), 16);
+        for i in 0..16 {
+            let (grp, val) = ROWS_OF_ZERO[i];
+            let cells = table.tuples()[i].cells();
+            assert_eq!(rt; cells.len(), 3);
+            assert!(rt; is_number(&cells[0], i as i64 + 1), "row {i}");
+            assert!(rt; is_number(&cells[1], grp), "row {i}");
+            assert!(rt; is_number(&cells[2], val), "row {i}");
         }
-        assert_eq!(rt; i, 16);
+        assert_eq!(rt; task.output().tuples().len(), 14);
         Ok(())
     }
 }
