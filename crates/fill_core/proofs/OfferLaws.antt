@@ -16,7 +16,7 @@ use Rattle.query_core.specs.Standard.{is_first, keeps_all}
 use Rattle.query_core.specs.Filled.{Filled, may_filter, filled_filter, filled_filters, first_preds, filled_pair, filled_pairs}
 use Rattle.query_core.specs.declared.kinds.Pairing.TheVariants.{Join, Left}
 use Rattle.fill_core.specs.Choices.{chosen, hole_choices, drops_some, every, with_alone, left_choice}
-use Rattle.fill_core.specs.Offers.{filled_by, filled_by_all, Gathered}
+use Rattle.fill_core.specs.Offers.{filled_by, filled_by_all, Gathered, GivesNothing}
 use Rattle.fill_core.specs.declared.choice.Choice.{Choice}
 use Rattle.fill_core.proofs.MaskLaws.{masked_filter, masked_full, joined_is, left_joined_is, length_crossed, length_with_alone, length_padded}
 
@@ -153,3 +153,39 @@ left_joins_of task a b types preds candidates choices is_types is_preds is_candi
     ∙ ap (λ ps. filled_by_all (a.types ++ b.types) ps candidates (map (left_choice (length a.rows) (length b.rows)) (hole_choices task (a.types ++ b.types) (crossed a.rows b.rows)))) is_preds
     ∙ ap (λ cs. filled_by_all (a.types ++ b.types) (a.preds ++ b.preds) cs (map (left_choice (length a.rows) (length b.rows)) (hole_choices task (a.types ++ b.types) (crossed a.rows b.rows)))) is_candidates
     ∙ left_joins_are task a b
+
+-- nothing is gathered of choices, where no choice of their candidates gives anything
+nothing_given : {Item : Type 0} (gives : Filled → List Item) (types : List ColType) (preds : List Pred) (candidates : List Row) (choices : List Choice)
+    → GivesNothing gives types candidates → All (λ c. length c.bits ≡ length candidates) choices → flat_map gives (filled_by_all types preds candidates choices) ≡ []
+nothing_given gives types preds candidates [] none wide = refl
+nothing_given gives types preds candidates (c ∷ choices) none wide =
+    ap₂ (λ xs ys. xs ++ ys) (none preds c (All-head (λ (ch : Choice). length ch.bits ≡ length candidates) c choices wide))
+    (nothing_given gives types preds candidates choices none (All-tail (λ (ch : Choice). length ch.bits ≡ length candidates) c choices wide))
+
+-- so a store holds all that is gathered of fillings that are such choices
+nothing_more : {Item : Type 0} (gives : Filled → List Item) (held : List Item) (types : List ColType) (preds : List Pred) (candidates : List Row) (choices : List Choice) (fillings : List Filled)
+    → GivesNothing gives types candidates → All (λ c. length c.bits ≡ length candidates) choices → filled_by_all types preds candidates choices ≡ fillings → held ≡ held ++ flat_map gives fillings
+nothing_more gives held types preds candidates choices fillings none wide same =
+    sym (append-nil held) ∙ ap (λ xs. held ++ xs) (sym (nothing_given gives types preds candidates choices none wide) ∙ ap (flat_map gives) same)
+
+pub no_whole : {Item : Type 0} (gives : Filled → List Item) (held : List Item) (types : List ColType) (preds : List Pred) (rows : List Row) → GivesNothing gives types rows
+    → held ≡ held ++ flat_map gives (record { types = types; preds = preds; rows = rows } ∷ [])
+no_whole gives held types preds rows none = nothing_more gives held types preds rows (every (length rows) ∷ []) _ none (whole_wide rows) (whole_is types preds rows)
+
+pub no_filters : {Item : Type 0} (task : TaskParts) (gives : Filled → List Item) (held : List Item) (types : List ColType) (preds : List Pred) (rows : List Row) → GivesNothing gives types rows
+    → held ≡ held ++ flat_map gives (filled_filters task (record { types = types; preds = preds; rows = rows }))
+no_filters task gives held types preds rows none = nothing_more gives held types preds rows (filter drops_some (hole_choices task types rows)) _ none (filters_wide task types rows) (filters_are task types preds rows)
+
+pub no_joins : {Item : Type 0} (task : TaskParts) (gives : Filled → List Item) (held : List Item) (a b : Filled) (types : List ColType) (candidates : List Row)
+    → types ≡ a.types ++ b.types → candidates ≡ crossed a.rows b.rows → GivesNothing gives types candidates → held ≡ held ++ flat_map gives (filled_pairs task Join a b)
+no_joins task gives held a b types candidates is_types is_candidates none =
+    let same = joins_of task a b types (a.preds ++ b.preds) candidates (hole_choices task types candidates) is_types refl is_candidates refl in
+    nothing_more gives held types (a.preds ++ b.preds) candidates (hole_choices task types candidates) _ none (hole_wide task types candidates) same
+
+pub no_left_joins : {Item : Type 0} (task : TaskParts) (gives : Filled → List Item) (held : List Item) (a b : Filled) (types : List ColType) (candidates : List Row)
+    → types ≡ a.types ++ b.types → candidates ≡ crossed_and_padded (length b.types) a.rows b.rows → GivesNothing gives types candidates → held ≡ held ++ flat_map gives (filled_pairs task Left a b)
+no_left_joins task gives held a b types candidates is_types is_candidates none =
+    let choices = map (left_choice (length a.rows) (length b.rows)) (hole_choices task types (crossed a.rows b.rows)) in
+    let same = left_joins_of task a b types (a.preds ++ b.preds) candidates choices is_types refl is_candidates refl in
+    let wide : All (λ c. length c.bits ≡ length candidates) choices = rw is_candidates (lefts_wide task types (length b.types) a.rows b.rows) in
+    nothing_more gives held types (a.preds ++ b.preds) candidates choices _ none wide same

@@ -1,5 +1,5 @@
 -- What nodes make of their parts' rows are the standard fillings.
-use Rattle.std.proofs.Common.{◌≡◌, ℕ, ◌≤◌, List, [], ◌∷◌, ◌++◌, drop, length, refl, sym, ap, ◌∙◌, Some}
+use Rattle.std.proofs.Common.{◌≡◌, ℕ, ◌≤◌, List, [], ◌∷◌, ◌++◌, drop, length, refl, sym, ap, subst, ◌∙◌, Option, Some}
 use Rattle.std.specs.Prelude.{All}
 use Rattle.std.specs.List.{flat_map}
 use Rattle.std.proofs.lemmas.List.{append-nil, drop_all}
@@ -22,7 +22,7 @@ use Rattle.query_laws.specs.Filled.{unions_on, of_each_filled}
 use Rattle.query_laws.proofs.FilledLaws.{filter_filled, pair_filled, group_filled, union_filled}
 use Rattle.fill_core.specs.Offers.{filled_by_all}
 use Rattle.fill_core.specs.Sites.{unary_filled, binary_with}
-use Rattle.fill_core.specs.View.{entry_filled, entries_filled, row_filled}
+use Rattle.fill_core.specs.View.{entry_filled, entries_filled, row_filled, IsPartOf, ArePartsOf}
 use Rattle.fill_core.specs.declared.choice.Choice.{Choice}
 use Rattle.fill_core.specs.declared.row.Entry.{Entry}
 use Rattle.fill_core.specs.declared.row.Row.{Row}
@@ -66,7 +66,7 @@ over_filters task row child p is =
     sym (flat_map-map (filled_filters task) (entry_filled row.types) row.entries) ∙ ap (flat_map (filled_filters task)) is ∙ sym (filter_filled task child p)
 
 pub over_groups : (task : TaskParts) (row : Row) (child : Tree) (keys : List ℕ) (agg : Agg) → row_filled row ≡ standard_fillings task child
-    → flat_map (unary_filled task (one.Group keys agg) row.types) row.entries ≡ standard_fillings task (t.group child keys agg)
+    → flat_map (λ e. filled_groups keys agg (entry_filled row.types e)) row.entries ≡ standard_fillings task (t.group child keys agg)
 over_groups task row child keys agg is =
     sym (flat_map-map (filled_groups keys agg) (entry_filled row.types) row.entries) ∙ ap (flat_map (filled_groups keys agg)) is ∙ sym (group_filled task child keys agg)
 
@@ -92,3 +92,30 @@ between_unions task kind left right a b is_left is_right =
     ∙ ap (λ fs. of_each_filled (unions_on kind) fs (row_filled right)) is_left
     ∙ ap (of_each_filled (unions_on kind) (standard_fillings task a)) is_right
     ∙ sym (union_filled task kind a b)
+
+-- what a node makes of the rows of its parts are the standard fillings of its skeleton
+
+part_row : (task : TaskParts) (child : Tree) (row : Row) (part : Option Row) → part ≡ Some row → IsPartOf task child part → row_filled row ≡ standard_fillings task child
+part_row task child row part is own = (subst (IsPartOf task child) is own).0
+
+pub site_filters : (task : TaskParts) (row : Row) (child : Tree) (p : Pred) (skeleton : Tree) (left right : Option Row) → t.filter child p ≡ skeleton → left ≡ Some row → ArePartsOf task skeleton left right
+    → flat_map (unary_filled task one.Filter row.types) row.entries ≡ standard_fillings task skeleton
+site_filters task row child p skeleton left right is is_left parts =
+    over_filters task row child p (part_row task child row left is_left (subst (λ s. ArePartsOf task s left right) (sym is) parts)) ∙ ap (standard_fillings task) is
+
+pub site_groups : (task : TaskParts) (row : Row) (child : Tree) (keys : List ℕ) (agg : Agg) (skeleton : Tree) (left right : Option Row) → t.group child keys agg ≡ skeleton → left ≡ Some row → ArePartsOf task skeleton left right
+    → flat_map (λ e. filled_groups keys agg (entry_filled row.types e)) row.entries ≡ standard_fillings task skeleton
+site_groups task row child keys agg skeleton left right is is_left parts =
+    over_groups task row child keys agg (part_row task child row left is_left (subst (λ s. ArePartsOf task s left right) (sym is) parts)) ∙ ap (standard_fillings task) is
+
+pub site_pairs : (task : TaskParts) (kind : Pairing) (a b : Row) (x y : Tree) (p : Pred) (skeleton : Tree) (left right : Option Row) → t.pair kind x y p ≡ skeleton → left ≡ Some a → right ≡ Some b → ArePartsOf task skeleton left right
+    → flat_map (binary_with task (two.Pair kind) a.types b.types b.entries) a.entries ≡ standard_fillings task skeleton
+site_pairs task kind a b x y p skeleton left right is is_left is_right parts =
+    let both = subst (λ s. ArePartsOf task s left right) (sym is) parts in
+    between_pairs task kind a b x y p (part_row task x a left is_left both.0) (part_row task y b right is_right both.1) ∙ ap (standard_fillings task) is
+
+pub site_unions : (task : TaskParts) (kind : Uniting) (a b : Row) (x y : Tree) (skeleton : Tree) (left right : Option Row) → t.unite kind x y ≡ skeleton → left ≡ Some a → right ≡ Some b → ArePartsOf task skeleton left right
+    → flat_map (binary_with task (two.Unite kind) a.types b.types b.entries) a.entries ≡ standard_fillings task skeleton
+site_unions task kind a b x y skeleton left right is is_left is_right parts =
+    let both = subst (λ s. ArePartsOf task s left right) (sym is) parts in
+    between_unions task kind a b x y (part_row task x a left is_left both.0) (part_row task y b right is_right both.1) ∙ ap (standard_fillings task) is

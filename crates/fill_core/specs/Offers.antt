@@ -1,5 +1,5 @@
 -- Candidate rows with choices, the fillings that they are, and what is gathered of them.
-use Rattle.std.specs.Prelude.{◌≡◌, List, [], ◌∷◌, ◌++◌, map, flat_map, Option, Some, None}
+use Rattle.std.specs.Prelude.{◌≡◌, List, length, [], ◌∷◌, ◌++◌, map, flat_map, Option, Some, None}
 use Rattle.value_core.specs.declared.value.ColType.{ColType}
 use Rattle.predicate_core.specs.declared.pred.Pred.{Pred}
 use Rattle.table_core.specs.Rows.{Row}
@@ -23,3 +23,7 @@ filled_by_all types preds candidates choices = map (filled_by types preds candid
 -- a store holds what it held and, behind it, what is gathered of some fillings
 abbrev pub Gathered : {Store Item : Type 0} → (Store → List Item) → (Filled → List Item) → Store → Store → List Filled → Type 0
 Gathered held gives before after fillings = held after ≡ held before ++ flat_map gives fillings
+
+-- no choice of some candidate rows, in columns of these types, gives anything
+abbrev pub GivesNothing : {Item : Type 0} → (Filled → List Item) → List ColType → List Row → Type 0
+GivesNothing gives types candidates = (preds : List Pred) (c : Choice) → length c.bits ≡ length candidates → gives (filled_by types preds candidates c) ≡ []

@@ -17,7 +17,7 @@ use Rattle.fill_core.specs.declared.site.Site.TheVariants as site
 -- the fillings of an operator over an entry whose columns have these types
 abbrev pub unary_filled : TaskParts → Unary → List ColType → Entry → List Filled
 unary_filled task one.Filter types child = filled_filters task (entry_filled types child)
-unary_filled task (one.Group keys agg) types child = filled_groups keys agg (entry_filled types child)
+unary_filled task (one.Group keys agg) types child = filled_groups keys.now agg (entry_filled types child)
 
 -- the fillings of an operator over two entries whose columns have these types
 abbrev pub binary_filled : TaskParts → Binary → List ColType → List ColType → Entry → Entry → List Filled
@@ -31,13 +31,13 @@ binary_with task op left right others a = flat_map (binary_filled task op left r
 -- the fillings of a node over its parts' entries
 abbrev pub site_filled : TaskParts → Site → List Filled
 site_filled task (site.Base table) = filled_base task table ∷ []
-site_filled task (site.Over op child) = flat_map (unary_filled task op child.types) child.entries
-site_filled task (site.Between op a b) = flat_map (binary_with task op a.types b.types b.entries) a.entries
+site_filled task (site.Over op child) = flat_map (unary_filled task op child.now.types) child.now.entries
+site_filled task (site.Between op a b) = flat_map (binary_with task op a.now.types b.now.types b.now.entries) a.now.entries
 
 -- the types of an operator's columns, by its parts'
 abbrev pub unary_types : Unary → List ColType → List ColType
 unary_types one.Filter child = child
-unary_types (one.Group keys agg) child = group_types child keys agg
+unary_types (one.Group keys agg) child = group_types child keys.now agg
 
 abbrev pub binary_types : Binary → List ColType → List ColType → List ColType
 binary_types (two.Pair kind) left right = left ++ right
@@ -46,5 +46,5 @@ binary_types (two.Unite kind) left right = left
 -- the types of a node's columns
 abbrev pub site_types : TaskParts → Site → List ColType
 site_types task (site.Base table) = types_of (input_at task.inputs table)
-site_types task (site.Over op child) = unary_types op child.types
-site_types task (site.Between op a b) = binary_types op a.types b.types
+site_types task (site.Over op child) = unary_types op child.now.types
+site_types task (site.Between op a b) = binary_types op a.now.types b.now.types

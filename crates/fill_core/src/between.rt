@@ -78,9 +78,12 @@ impl Between<'_> {
         requires accepts { All (R.accepts receiver.now) (filled_pairs self.now.task.now pairing.Join (entry_filled self.now.left.now parts.now.left.now) (entry_filled self.now.right.now parts.now.right.now)) }
         ensures { OnOk result (Gathered (R.held receiver.now) (R.gives receiver.now) store.old store.new (filled_pairs self.now.task.now pairing.Join (entry_filled self.now.left.now parts.now.left.now) (entry_filled self.now.right.now parts.now.right.now))) }
     {
-        let preds = parts.preds(alloc)?;
         let (lefts, rights) = (parts.left.rows.as_slice(), parts.right.rows.as_slice());
         let pairs = cross_rows(alloc, lefts, rights)?;
+        let Some(findings) = receiver.look(alloc, self.types, pairs.as_slice())? else {
+            return Ok(());
+        };
+        let preds = parts.preds(alloc)?;
         let choices = choices(alloc, self.task, self.types, pairs.as_slice())?;
         let offer = Offer {
             types: self.types,
@@ -88,7 +91,7 @@ impl Between<'_> {
             candidates: pairs.as_slice(),
             choices: choices.as_slice(),
         };
-        receiver.take(alloc, &offer, store)
+        receiver.take(alloc, &offer, &findings, store)
     }
 
     // Hands the left joins of two entries to a receiver.
@@ -105,19 +108,22 @@ impl Between<'_> {
         requires accepts { All (R.accepts receiver.now) (filled_pairs self.now.task.now pairing.Left (entry_filled self.now.left.now parts.now.left.now) (entry_filled self.now.right.now parts.now.right.now)) }
         ensures { OnOk result (Gathered (R.held receiver.now) (R.gives receiver.now) store.old store.new (filled_pairs self.now.task.now pairing.Left (entry_filled self.now.left.now parts.now.left.now) (entry_filled self.now.right.now parts.now.right.now))) }
     {
-        let preds = parts.preds(alloc)?;
         let (lefts, rights) = (parts.left.rows.as_slice(), parts.right.rows.as_slice());
+        let candidates = cross_and_pad_rows(alloc, self.right.len(), lefts, rights)?;
+        let Some(findings) = receiver.look(alloc, self.types, candidates.as_slice())? else {
+            return Ok(());
+        };
+        let preds = parts.preds(alloc)?;
         let pairs = cross_rows(alloc, lefts, rights)?;
         let of_pairs = choices(alloc, self.task, self.types, pairs.as_slice())?;
         let choices = left_choices(alloc, lefts.len(), rights.len(), of_pairs.as_slice())?;
-        let candidates = cross_and_pad_rows(alloc, self.right.len(), lefts, rights)?;
         let offer = Offer {
             types: self.types,
             preds: preds.as_slice(),
             candidates: candidates.as_slice(),
             choices: choices.as_slice(),
         };
-        receiver.take(alloc, &offer, store)
+        receiver.take(alloc, &offer, &findings, store)
     }
 
     // Hands what the operator makes of two entries to a receiver.

@@ -1,9 +1,10 @@
-ghost use Rattle.std.specs.Prelude.{◌≡◌, IfOk};
+ghost use Rattle.std.specs.Prelude.{◌≡◌, true, option_copied, IfOk};
 ghost use Rattle.query_core.specs.Filled.{standard_fillings};
 ghost use Rattle.query_core.specs.Meaning.{columns};
 ghost use Rattle.query_core.specs.View.{tree};
+ghost use Rattle.table_core.specs.declared.task.TaskParts.{TaskParts};
 ghost use Rattle.fill_core.specs.Sites.{site_filled, site_types};
-ghost use Rattle.fill_core.specs.View.{row_filled};
+ghost use Rattle.fill_core.specs.View.{IsRowOf, ArePartsOf, has_parts};
 
 use crate::keeper::Keeper;
 use crate::row::Row;
@@ -12,53 +13,70 @@ use query_core::{Node, Pairing, Uniting};
 use sqlite_items::Items;
 use std::alloc::Global;
 use table_core::Task;
-use value_core::{OutOfMemory, copied};
+use value_core::OutOfMemory;
 
-/// The root of a skeleton over the standard fillings of its parts.
-#[cycle(fill)]
-pub fn site_of(alloc: Global, task: &Task, skeleton: &Node) -> Result<Site, OutOfMemory>
-    ensures filled { IfOk result (λ site. site_filled task.now site ≡ standard_fillings task.now (tree skeleton.now)) }
-    ensures types { IfOk result (λ site. site_types task.now site ≡ columns task.now.inputs (tree skeleton.now)) }
+/// The rows of a skeleton's parts: of its left part or its only one, and of its right part.
+#[derive(Clone, Copy, Debug)]
+pub struct Below<'a> {
+    pub left: Option<&'a Row>,
+    pub right: Option<&'a Row>,
+}
+
+/// Whether the parts of a skeleton are there. It takes no memory.
+pub fn has_parts(skeleton: &Node, below: &Below<'_>) -> bool
+    ensures { result ≡ has_parts (tree skeleton.now) (option_copied below.now.left) (option_copied below.now.right) }
 {
     match skeleton {
-        Node::Base(table) => Ok(Site::Base(*table)),
-        Node::Filter(child, _) => { Ok(Site::Over(Unary::Filter, fill(alloc, task, child.get())?)) }
-        Node::Join(a, b, _) => {
-            let left = fill(alloc, task, a.get())?;
-            let right = fill(alloc, task, b.get())?;
-            Ok(Site::Between(Binary::Pair(Pairing::Join), left, right))
-        }
-        Node::Left(a, b, _) => {
-            let left = fill(alloc, task, a.get())?;
-            let right = fill(alloc, task, b.get())?;
-            Ok(Site::Between(Binary::Pair(Pairing::Left), left, right))
-        }
-        Node::Group(child, keys, agg) => {
-            let row = fill(alloc, task, child.get())?;
-            let keys = copied(alloc, keys.as_slice())?;
-            Ok(Site::Over(Unary::Group(keys, *agg), row))
-        }
-        Node::UnionAll(a, b) => {
-            let left = fill(alloc, task, a.get())?;
-            let right = fill(alloc, task, b.get())?;
-            Ok(Site::Between(Binary::Unite(Uniting::All), left, right))
-        }
-        Node::Union(a, b) => {
-            let left = fill(alloc, task, a.get())?;
-            let right = fill(alloc, task, b.get())?;
-            Ok(Site::Between(Binary::Unite(Uniting::Firsts), left, right))
-        }
+        Node::Base(_) => true,
+        Node::Filter(_, _) => below.left.is_some(),
+        Node::Join(_, _, _) => below.left.is_some() && below.right.is_some(),
+        Node::Left(_, _, _) => below.left.is_some() && below.right.is_some(),
+        Node::Group(_, _, _) => below.left.is_some(),
+        Node::UnionAll(_, _) => below.left.is_some() && below.right.is_some(),
+        Node::Union(_, _) => below.left.is_some() && below.right.is_some(),
     }
 }
 
-/// The standard fillings of a skeleton that have rows, in order.
-#[tactic(auto, using(crate::proofs::SiteLaws::singles))]
-#[cycle(fill)]
-pub fn fill(alloc: Global, task: &Task, skeleton: &Node) -> Result<Row, OutOfMemory>
-    ensures filled { IfOk result (λ row. row_filled row ≡ standard_fillings task.now (tree skeleton.now)) }
-    ensures types { IfOk result (λ row. row.types ≡ columns task.now.inputs (tree skeleton.now)) }
+/// The root of a skeleton over the rows of its parts.
+pub fn site_of<'a>(skeleton: &'a Node, below: &Below<'a>) -> Site<'a>
+    requires parts { has_parts (tree skeleton.now) (option_copied below.now.left) (option_copied below.now.right) ≡ true }
+    ensures filled { (task : TaskParts) → ArePartsOf task (tree skeleton.now) (option_copied below.now.left) (option_copied below.now.right) → site_filled task result ≡ standard_fillings task (tree skeleton.now) }
+    ensures types { (task : TaskParts) → ArePartsOf task (tree skeleton.now) (option_copied below.now.left) (option_copied below.now.right) → site_types task result ≡ columns task.inputs (tree skeleton.now) }
 {
-    let site = site_of(alloc, task, skeleton)?;
+    match (skeleton, below.left, below.right) {
+        (Node::Base(table), _, _) => Site::Base(*table),
+        (Node::Filter(_, _), Some(child), _) => Site::Over(Unary::Filter, child),
+        (Node::Group(_, keys, agg), Some(child), _) => {
+            Site::Over(Unary::Group(keys.as_slice(), *agg), child)
+        }
+        (Node::Join(_, _, _), Some(left), Some(right)) => {
+            Site::Between(Binary::Pair(Pairing::Join), left, right)
+        }
+        (Node::Left(_, _, _), Some(left), Some(right)) => {
+            Site::Between(Binary::Pair(Pairing::Left), left, right)
+        }
+        (Node::UnionAll(_, _), Some(left), Some(right)) => {
+            Site::Between(Binary::Unite(Uniting::All), left, right)
+        }
+        (Node::Union(_, _), Some(left), Some(right)) => {
+            Site::Between(Binary::Unite(Uniting::Firsts), left, right)
+        }
+        _ => unreachable!(),
+    }
+}
+
+/// The row of a skeleton over the rows of its parts: its standard fillings that have rows, in order.
+#[tactic(auto, using(crate::proofs::SiteLaws::singles))]
+pub fn fill_node(
+    alloc: Global,
+    task: &Task,
+    skeleton: &Node,
+    below: &Below<'_>,
+) -> Result<Row, OutOfMemory>
+    requires { ArePartsOf task.now (tree skeleton.now) (option_copied below.now.left) (option_copied below.now.right) }
+    ensures { IfOk result (λ row. IsRowOf task.now (tree skeleton.now) row) }
+{
+    let site = site_of(skeleton, below);
     let types = site.types(alloc, task)?;
     let mut entries = Vec::new(alloc);
     let keeper = Keeper {

@@ -6,6 +6,7 @@ use crate::row::Entry;
 use predicate_core::Pred;
 use sqlite_items::Items;
 use std::alloc::Global;
+use table_core::Tuple;
 use value_core::{ColType, OutOfMemory, concatenated, copied};
 
 /// Keeps the fillings of a node whose columns have these types as entries.
@@ -47,6 +48,8 @@ impl Receiver for Keeper<'_> {
 
     type Store = Vec<Entry>;
 
+    type Findings = ();
+
     ghost Item = { Filled };
 
     ghost held = { λ k store. entries_filled k.types.now store.items };
@@ -57,10 +60,22 @@ impl Receiver for Keeper<'_> {
 
     ghost accepts = { λ k f. Unit };
 
+    ghost found = { λ k types candidates findings. Unit };
+
+    fn look(
+        &self,
+        _alloc: Global,
+        _types: &[ColType],
+        _candidates: &[Tuple],
+    ) -> Result<Option<()>, OutOfMemory> {
+        Ok(Some(()))
+    }
+
     fn take(
         &self,
         alloc: Global,
         offer: &Offer<'_>,
+        _findings: &(),
         store: &mut Vec<Entry>,
     ) -> Result<(), OutOfMemory> {
         for choice in offer.choices {

@@ -8,13 +8,15 @@ mod fillings;
 mod keeper;
 mod offer;
 mod over;
+mod parts;
 mod receiver;
 mod row;
 mod site;
 
-pub use choice::{Choice, choices};
-pub use fillings::{fill, site_of};
+pub use choice::Choice;
+pub use fillings::{Below, fill_node, has_parts, site_of};
 pub use offer::Offer;
+pub use parts::{Parts, fill, parts_of};
 pub use receiver::Receiver;
 pub use row::{Entry, Row};
-pub use site::{Binary, Site, Unary};
+pub use site::Site;

@@ -39,6 +39,9 @@ impl Whole<'_> {
         requires accepts { R.accepts receiver.now (record { types = self.now.types.now; preds = self.now.preds.now; rows = self.now.rows.now }) }
         ensures { OnOk result (Gathered (R.held receiver.now) (R.gives receiver.now) store.old store.new (record { types = self.now.types.now; preds = self.now.preds.now; rows = self.now.rows.now } ∷ [])) }
     {
+        let Some(findings) = receiver.look(alloc, self.types, self.rows)? else {
+            return Ok(());
+        };
         let every = [Choice::every(alloc, self.rows.len())?];
         let offer = Offer {
             types: self.types,
@@ -46,6 +49,6 @@ impl Whole<'_> {
             candidates: self.rows,
             choices: &every,
         };
-        receiver.take(alloc, &offer, store)
+        receiver.take(alloc, &offer, &findings, store)
     }
 }

@@ -19,7 +19,7 @@ use value_core::{ColType, OutOfMemory};
 #[derive(Drop)]
 pub struct Over<'a> {
     pub task: &'a Task,
-    pub op: &'a Unary,
+    pub op: &'a Unary<'a>,
     pub types: &'a [ColType],
     pub child: &'a [ColType],
 }
@@ -38,6 +38,9 @@ fn hand_filters<R: Receiver>(
     ensures { OnOk result (Gathered (R.held receiver.now) (R.gives receiver.now) store.old store.new (filled_filters over.now.task.now (entry_filled over.now.child.now child.now))) }
 {
     let rows = child.rows.as_slice();
+    let Some(findings) = receiver.look(alloc, over.child, rows)? else {
+        return Ok(());
+    };
     let choices = filter_choices(alloc, over.task, over.child, rows)?;
     let offer = Offer {
         types: over.child,
@@ -45,7 +48,7 @@ fn hand_filters<R: Receiver>(
         candidates: rows,
         choices: choices.as_slice(),
     };
-    receiver.take(alloc, &offer, store)
+    receiver.take(alloc, &offer, &findings, store)
 }
 
 impl Over<'_> {
@@ -66,7 +69,7 @@ impl Over<'_> {
             Unary::Filter => hand_filters(alloc, self, child, receiver, store),
             Unary::Group(keys, agg) => {
                 let rows = child.rows.as_slice();
-                let Some(groups) = group_tuples(alloc, keys.as_slice(), agg, rows)? else {
+                let Some(groups) = group_tuples(alloc, keys, agg, rows)? else {
                     return Ok(());
                 };
                 let whole = Whole {

@@ -1,16 +1,21 @@
-ghost use Rattle.std.specs.Prelude.{◌≡◌, List, All, length, OnOk};
+ghost use Rattle.std.specs.Prelude.{◌≡◌, List, All, length, Ok, None, IfOk, IfSome, OnOk};
 ghost use Rattle.value_core.specs.declared.value.ColType as values;
+ghost use Rattle.table_core.specs.Rows.{Row};
 ghost use Rattle.query_core.specs.Filled.{Filled};
-ghost use Rattle.fill_core.specs.Offers.{filled_by_all, Gathered};
+ghost use Rattle.fill_core.specs.Offers.{filled_by_all, Gathered, GivesNothing};
 
 use crate::offer::Offer;
 use std::alloc::Global;
-use value_core::OutOfMemory;
+use table_core::Tuple;
+use value_core::{ColType, OutOfMemory};
 
 /// What gathers something of the fillings of a node, combination by combination of its parts' entries.
 pub trait Receiver {
     /// What it gathers into.
     type Store;
+
+    /// What it finds out about candidate rows before any choice of them is made.
+    type Findings: Drop;
 
     // What a store holds, and what is gathered of a filling.
     ghost Item: { Type 0 };
@@ -24,15 +29,31 @@ pub trait Receiver {
 
     ghost accepts: { Self → Filled → Type 0 };
 
-    /// Gathers from the fillings that a node has over one combination.
+    // What its findings are about candidate rows of columns of these types.
+    ghost found: { Self → List values.ColType → List Row → Self.Findings → Type 0 };
+
+    /// Looks at the candidate rows of a combination. None where no choice of them gives it anything.
+    fn look(
+        &self,
+        alloc: Global,
+        types: &[ColType],
+        candidates: &[Tuple],
+    ) -> Result<Option<Self::Findings>, OutOfMemory>
+        requires typed { typed self.now types.now }
+        ensures found { IfOk result (λ findings. IfSome findings (found self.now types.now candidates.now)) }
+        ensures nothing { result ≡ Ok None → GivesNothing (gives self.now) types.now candidates.now };
+
+    /// Gathers from the fillings that a node has over one combination, on whose candidate rows it has looked.
     fn take(
         &self,
         alloc: Global,
         offer: &Offer<'_>,
+        findings: &Self::Findings,
         store: &mut Self::Store,
     ) -> Result<(), OutOfMemory>
         requires wide { All (λ c. length c.bits ≡ length offer.now.candidates.now) offer.now.choices.now }
         requires typed { typed self.now offer.now.types.now }
         requires accepts { All (accepts self.now) (filled_by_all offer.now.types.now offer.now.preds.now offer.now.candidates.now offer.now.choices.now) }
+        requires found { found self.now offer.now.types.now offer.now.candidates.now findings.now }
         ensures { OnOk result (Gathered (held self.now) (gives self.now) store.old store.new (filled_by_all offer.now.types.now offer.now.preds.now offer.now.candidates.now offer.now.choices.now)) };
 }

@@ -16,3 +16,24 @@ pub struct Row {
     pub types: Items<ColType>,
     pub entries: Items<Entry>,
 }
+
+impl Row {
+    ghost use Rattle.std.specs.Prelude.{◌≡◌, ◌+◌, ◌<◌, None, IfSome};
+    ghost use Rattle.fill_core.specs.View.{weight};
+
+    /// What its weight leaves of a budget: none where it is more.
+    pub fn left_of(&self, budget: u64) -> Option<u64>
+        ensures left { IfSome result (λ left. left + weight self.now ≡ budget) }
+        ensures passed { result ≡ None → budget < weight self.now }
+    {
+        let mut left = budget;
+        for entry in self.entries.as_slice() {
+            let rows = entry.rows.len() as u64;
+            if left <= rows {
+                return None;
+            }
+            left = left - rows - 1;
+        }
+        Some(left)
+    }
+}

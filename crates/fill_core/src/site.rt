@@ -16,10 +16,10 @@ use table_core::Task;
 use value_core::{ColType, OutOfMemory, concatenated, copied};
 
 /// An operator over one part.
-#[derive(Debug, Drop)]
-pub enum Unary {
+#[derive(Clone, Copy, Debug)]
+pub enum Unary<'a> {
     Filter,
-    Group(Items<usize>, Agg),
+    Group(&'a [usize], Agg),
 }
 
 /// An operator over two parts.
@@ -29,21 +29,25 @@ pub enum Binary {
     Unite(Uniting),
 }
 
-/// A node over the fillings of its parts.
-#[derive(Debug, Drop)]
-pub enum Site {
+/// A node over the rows of its parts.
+#[derive(Clone, Copy, Debug)]
+pub enum Site<'a> {
     Base(u32),
-    Over(Unary, Row),
-    Between(Binary, Row, Row),
+    Over(Unary<'a>, &'a Row),
+    Between(Binary, &'a Row, &'a Row),
 }
 
 // The types of an operator's columns, by its part's.
-fn unary_types(alloc: Global, op: &Unary, child: &[ColType]) -> Result<Items<ColType>, OutOfMemory>
+fn unary_types(
+    alloc: Global,
+    op: &Unary<'_>,
+    child: &[ColType],
+) -> Result<Items<ColType>, OutOfMemory>
     ensures { IfOk result (λ types. types ≡ unary_types op.now child.now) }
 {
     match op {
         Unary::Filter => copied(alloc, child),
-        Unary::Group(keys, agg) => group_types(alloc, child, keys.as_slice(), agg),
+        Unary::Group(keys, agg) => group_types(alloc, child, keys, agg),
     }
 }
 
@@ -84,7 +88,7 @@ fn hand_base<R: Receiver>(
     whole.hand(alloc, receiver, store)
 }
 
-impl Site {
+impl Site<'_> {
     /// The types of its columns.
     pub fn types(&self, alloc: Global, task: &Task) -> Result<Items<ColType>, OutOfMemory>
         ensures { IfOk result (λ types. types ≡ site_types task.now self.now) }

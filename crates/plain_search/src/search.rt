@@ -6,8 +6,9 @@ ghost use Rattle.rank_core.specs.View.{ranked_query, ranked_queries};
 ghost use Rattle.root_search.specs.Answers.{root_answers};
 ghost use Rattle.skeleton_graph.specs.Nodes.{trees_of};
 
+use fill_core::parts_of;
 use rank_core::{Ranked, sort};
-use root_search::push_answers;
+use root_search::Root;
 use skeleton_graph::{Graph, GraphFault, build};
 use std::alloc::Global;
 use table_core::Task;
@@ -32,7 +33,13 @@ fn found(alloc: Global, task: &Task, graph: &Graph) -> Result<Vec<Ranked>, OutOf
     let mut out = Vec::new(alloc);
     for number in 0..graph.len() {
         let skeleton = graph.tree(alloc, number)?;
-        push_answers(alloc, task, number, &skeleton, &mut out)?;
+        let parts = parts_of(alloc, task, &skeleton)?;
+        let root = Root {
+            task,
+            number,
+            skeleton: &skeleton,
+        };
+        root.push_answers(alloc, &parts.below(), &mut out)?;
     }
     Ok(out)
 }

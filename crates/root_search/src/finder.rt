@@ -7,12 +7,12 @@ use query_core::{Node, Query};
 use rank_core::{Ranked, key};
 use sqlite_items::Items;
 use std::alloc::Global;
-use table_core::Task;
-use value_core::{OutOfMemory, concatenated, copied};
+use table_core::{Task, Tuple};
+use value_core::{ColType, OutOfMemory, concatenated, copied};
 
-/// Finds the answers among the fillings of the skeleton of a number.
+/// The skeleton of a number as a root: what finds the answers among its fillings.
 #[derive(Drop)]
-pub(crate) struct Finder<'a> {
+pub struct Root<'a> {
     pub task: &'a Task,
     pub number: u32,
     pub skeleton: &'a Node,
@@ -33,7 +33,7 @@ struct Reads<'a> {
     readings: &'a [Reading],
 }
 
-impl Finder<'_> {
+impl Root<'_> {
     ghost use Rattle.std.specs.Prelude.{◌≡◌, ◌++◌, ℕ, Bool, None, All, IfOk, OnOk, length};
     ghost use Rattle.query_core.specs.Answers.{ranked};
     ghost use Rattle.query_core.specs.Membership.{query_fault};
@@ -137,13 +137,16 @@ impl Finder<'_> {
     }
 }
 
-impl Receiver for Finder<'_> {
+impl Receiver for Root<'_> {
     ghost use Rattle.query_core.specs.Answers.{RankedQuery};
     ghost use Rattle.query_core.specs.View.{tree};
     ghost use Rattle.rank_core.specs.View.{ranked_queries};
     ghost use Rattle.root_search.specs.Answers.{answers_on, FillingFits};
+    ghost use Rattle.root_search.specs.Readings.{readings};
 
     type Store = Vec<Ranked>;
+
+    type Findings = Items<Reading>;
 
     ghost Item = { RankedQuery };
 
@@ -155,14 +158,26 @@ impl Receiver for Finder<'_> {
 
     ghost accepts = { λ f filled. FillingFits f.task.now (tree f.skeleton.now) filled };
 
+    ghost found = { λ f types candidates list. list ≡ readings types candidates f.task.now.output };
+
+    fn look(
+        &self,
+        alloc: Global,
+        types: &[ColType],
+        candidates: &[Tuple],
+    ) -> Result<Option<Items<Reading>>, OutOfMemory> {
+        let list = readings(alloc, types, candidates, self.task.output())?;
+        Ok(if list.is_empty() { None } else { Some(list) })
+    }
+
     fn take(
         &self,
         alloc: Global,
         offer: &Offer<'_>,
+        findings: &Items<Reading>,
         store: &mut Vec<Ranked>,
     ) -> Result<(), OutOfMemory> {
-        let list = readings(alloc, offer.types, offer.candidates, self.task.output())?;
-        let readings = list.as_slice();
+        let readings = findings.as_slice();
         for choice in offer.choices {
             let reads = Reads {
                 offer: &*offer,

@@ -10,8 +10,8 @@ mod refill;
 mod root;
 mod target;
 
+pub use finder::Root;
 pub use laws::{
     answers_are_by_roots, bits_give_what_rows_give, fillings_are_of_grammar,
     readings_have_their_targets, too_few_give_nothing,
 };
-pub use root::push_answers;

@@ -1,3 +1,4 @@
+pub mod Search
 pub mod Size
 pub mod Line
 pub mod Listing

@@ -7,6 +7,7 @@ mod line;
 mod listing;
 mod piece;
 mod run;
+mod search;
 
 pub use end::End;
 pub use run::scythe;

@@ -16,7 +16,7 @@ ghost use Rattle.top_call.specs.declared.end.End.TheVariants.{Listed, Empty, Usa
 
 use crate::end::End;
 use crate::line::write_line;
-use crate::listing::answer;
+use crate::listing::{Engine, answer};
 use command_line::{Request, command};
 use io_edge::{Folder, Gate, Sink};
 use std::alloc::Global;
@@ -38,17 +38,23 @@ fn end_of(unread: TaskEnd) -> End
 }
 
 // Reads the task of a file, lists its answers and writes its text.
-fn run_file<F: Folder, K: Sink>(alloc: Global, file: &Bytes, folder: &mut F, out: &mut K) -> End
+fn run_file<F: Folder, K: Sink>(
+    alloc: Global,
+    file: &Bytes,
+    engine: Engine,
+    folder: &mut F,
+    out: &mut K,
+) -> End
     ensures runs { Runs (F.told folder.old) (F.faults folder.old) (F.faults folder.new) file.now (K.written out.old) (K.written out.new) (K.faults out.old) (K.faults out.new) result }
     ensures still { UnlessReadFault result ((n : List ℕ) → F.faults folder.new n ≡ F.faults folder.old n) }
 {
     match read_task(alloc, folder, file.as_slice()) {
-        Ok(task) => answer(alloc, &task, out),
+        Ok(task) => answer(alloc, &task, engine, out),
         Err(unread) => end_of(unread),
     }
 }
 
-// Does what is asked for: for now both modes list plainly, and no number of workers changes anything.
+// Does what is asked for. For now no number of workers changes anything.
 fn run_request<F: Folder, K: Sink>(
     alloc: Global,
     request: &Request,
@@ -59,8 +65,8 @@ fn run_request<F: Folder, K: Sink>(
     ensures still { UnlessReadFault result ((n : List ℕ) → F.faults folder.new n ≡ F.faults folder.old n) }
 {
     match request {
-        Request::Run { file, .. } => run_file(alloc, file, folder, out),
-        Request::Plain { file } => run_file(alloc, file, folder, out),
+        Request::Run { file, .. } => run_file(alloc, file, Engine::Search, folder, out),
+        Request::Plain { file } => run_file(alloc, file, Engine::Plain, folder, out),
     }
 }
 

@@ -1,7 +1,7 @@
-use Rattle.std.proofs.Common.{ap, ◌∙◌, ◌∷◌, []}
+use Rattle.std.proofs.Common.{Ok, ap, ◌∙◌, ◌∷◌, []}
 use Rattle.std.proofs.lemmas.Result.{on_ok_weaker}
 use Rattle.fill_core.specs.Offers.{filled_by_all}
-use Rattle.fill_core.proofs.OfferLaws.{whole_is, all_of_one, accepted, gathered}
+use Rattle.fill_core.proofs.OfferLaws.{whole_is, all_of_one, accepted, gathered, no_whole}
 use Rattle.fill_core.proofs.offer.Whole.hand.Goals as goal
 
 pub take-requires-clause-accepts : goal.take-requires-clause-accepts
@@ -15,3 +15,8 @@ returns g c =
     let w = c.args.self.now in
     let same = ap (λ ch. filled_by_all w.types.now w.preds.now w.rows.now (ch ∷ [])) c.in_ok-every.ensures ∙ whole_is w.types.now w.preds.now w.rows.now in
     on_ok_weaker c.take.result (gathered (g.R.Receiver.held c.args.receiver.now) (g.R.Receiver.gives c.args.receiver.now) c.args.store.now c.take.new.store _ _ same) c.take.ensures
+
+pub returns-in_default : goal.returns-in_default
+returns-in_default g c =
+    let w = c.args.self.now in
+    no_whole (g.R.Receiver.gives c.args.receiver.now) (g.R.Receiver.held c.args.receiver.now c.args.store.now) w.types.now w.preds.now w.rows.now (c.look.ensures.nothing (c.in_ok-findings.was ∙ ap Ok c.in_default.is))

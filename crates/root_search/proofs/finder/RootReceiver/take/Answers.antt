@@ -9,7 +9,7 @@ use Rattle.root_search.specs.Answers.{query_of, AreOfGrammar}
 use Rattle.root_search.specs.Reads.{preds_of}
 use Rattle.root_search.specs.Readings.{readings}
 use Rattle.root_search.proofs.ReadLaws.{readings_wide, readings_of_grammar, filling_at, fitting_at, all_read}
-use Rattle.root_search.proofs.finder.FinderReceiver.take.Goals as goal
+use Rattle.root_search.proofs.finder.RootReceiver.take.Goals as goal
 
 pub push_choice-requires-clause-wide : goal.push_choice-requires-clause-wide
 push_choice-requires-clause-wide c =

@@ -3,7 +3,7 @@ use Rattle.std.specs.List.{flat_map}
 use Rattle.query_core.specs.View.{tree}
 use Rattle.rank_core.specs.View.{ranked_queries}
 use Rattle.root_search.specs.Reads.{choice_answers}
-use Rattle.root_search.proofs.finder.FinderReceiver.take.Given as goal
+use Rattle.root_search.proofs.finder.RootReceiver.take.Given as goal
 
 abbrev pub invariant-loop-choice : goal.invariant-loop-choice
 invariant-loop-choice l =

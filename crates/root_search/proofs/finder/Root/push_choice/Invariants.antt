@@ -3,7 +3,7 @@ use Rattle.std.specs.List.{flat_map}
 use Rattle.query_core.specs.View.{tree}
 use Rattle.rank_core.specs.View.{ranked_queries}
 use Rattle.root_search.specs.Reads.{read_answers}
-use Rattle.root_search.proofs.finder.Finder.push_choice.Given as goal
+use Rattle.root_search.proofs.finder.Root.push_choice.Given as goal
 
 abbrev pub invariant-loop-reading : goal.invariant-loop-reading
 invariant-loop-reading l =
