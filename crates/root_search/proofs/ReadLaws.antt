@@ -15,7 +15,7 @@ use Rattle.query_core.specs.Membership.{query_fault}
 use Rattle.query_core.specs.Answers.{RankedQuery, ranked}
 use Rattle.query_core.proofs.MapLaws.{flat_map_same, flat_map_filter}
 use Rattle.bit_rows.specs.Masked.{masked}
-use Rattle.fill_core.specs.Offers.{filled_by, filled_by_all}
+use Rattle.fill_core.specs.Offers.{filled_by, filled_by_all, GivesNothing}
 use Rattle.fill_core.specs.declared.choice.Choice.{Choice}
 use Rattle.root_search.specs.Answers.{query_of, answers_by, answers_on, AreOfGrammar, FillingFits}
 use Rattle.root_search.specs.Reads.{preds_of, read_answers, choice_answers}
@@ -58,6 +58,11 @@ choice_is task n skeleton types parts candidates c wide =
     ∙ flat_map_filter by enough picked
     ∙ flat_map_same (λ picks. if enough picks then by picks else []) (answers_by task n skeleton (filled_by types parts candidates c)) picked
     (λ picks. by_map task n skeleton types parts candidates c picks wide (enough picks) refl)
+
+-- where there is no reading, no choice gives anything
+pub nothing_read : (task : TaskParts) (n : ℕ) (skeleton : Tree) (types : List ColType) (candidates : List Row) → readings types candidates task.output ≡ [] → GivesNothing (answers_on task n skeleton) types candidates
+nothing_read task n skeleton types candidates none preds c wide =
+    sym (choice_is task n skeleton types preds candidates c wide) ∙ ap (λ rs. choice_answers task n skeleton preds rs c) none
 
 -- so are those of all choices
 pub choices_are_read : (task : TaskParts) (n : ℕ) (skeleton : Tree) (types : List ColType) (parts : List Pred) (candidates : List Row) (choices : List Choice) → All (λ c. length c.bits ≡ length candidates) choices

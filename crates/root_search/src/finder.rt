@@ -99,7 +99,7 @@ impl Root<'_> {
     }
 
     // Appends the queries of a choice by a reading, with and without removal of duplicates.
-    fn push_answers(
+    fn push_both(
         &self,
         alloc: Global,
         read: &Read<'_>,
@@ -131,7 +131,7 @@ impl Root<'_> {
                 choice,
                 reading,
             };
-            self.push_answers(alloc, &read, out)?;
+            self.push_both(alloc, &read, out)?;
         }
         Ok(())
     }
@@ -143,6 +143,7 @@ impl Receiver for Root<'_> {
     ghost use Rattle.rank_core.specs.View.{ranked_queries};
     ghost use Rattle.root_search.specs.Answers.{answers_on, FillingFits};
     ghost use Rattle.root_search.specs.Readings.{readings};
+    ghost use Rattle.std.specs.Prelude.{◌≡◌};
 
     type Store = Vec<Ranked>;
 
@@ -167,7 +168,10 @@ impl Receiver for Root<'_> {
         candidates: &[Tuple],
     ) -> Result<Option<Items<Reading>>, OutOfMemory> {
         let list = readings(alloc, types, candidates, self.task.output())?;
-        Ok(if list.is_empty() { None } else { Some(list) })
+        if list.is_empty() {
+            return Ok(None);
+        }
+        Ok(Some(list))
     }
 
     fn take(

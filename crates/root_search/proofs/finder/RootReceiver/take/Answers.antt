@@ -15,7 +15,7 @@ pub push_choice-requires-clause-wide : goal.push_choice-requires-clause-wide
 push_choice-requires-clause-wide c =
     let o = c.args.offer.now in
     let task = c.args.self.now.task.now in
-    let is : c.as_slice-readings.result.now ≡ readings o.types.now o.candidates.now task.output = c.as_slice-readings.ensures ∙ c.in_ok-list.ensures ∙ ap (readings o.types.now o.candidates.now) c.output.ensures in
+    let is : c.as_slice-readings.result.now ≡ readings o.types.now o.candidates.now task.output = c.as_slice-readings.ensures ∙ c.requires.found in
     let wide = filling_at (λ ch. length ch.bits ≡ length o.candidates.now) o.choices.now c.loop-choice.choice-index c.choice-item.result c.loop-choice-test.true c.choice-item.is c.requires.wide in
     subst (λ rs. All (λ r. All (λ t. length c.choice-item.result.bits ≡ length t.mask) r.targets) rs) (sym is) (readings_wide o.types.now o.candidates.now task c.choice-item.result.bits wide)
 
@@ -24,7 +24,7 @@ push_choice-requires-clause-fits c =
     let o = c.args.offer.now in
     let task = c.args.self.now.task.now in
     let skeleton = tree c.args.self.now.skeleton.now in
-    let is : c.as_slice-readings.result.now ≡ readings o.types.now o.candidates.now task.output = c.as_slice-readings.ensures ∙ c.in_ok-list.ensures ∙ ap (readings o.types.now o.candidates.now) c.output.ensures in
+    let is : c.as_slice-readings.result.now ≡ readings o.types.now o.candidates.now task.output = c.as_slice-readings.ensures ∙ c.requires.found in
     let each = fitting_at task skeleton o.types.now o.preds.now o.candidates.now o.choices.now c.requires.accepts in
     let fits = filling_at (λ ch. AreOfGrammar task skeleton (preds_of o.preds.now ch) (maps o.types.now (types_of task.output))) o.choices.now c.loop-choice.choice-index c.choice-item.result c.loop-choice-test.true c.choice-item.is each in
     subst (λ rs. All (λ r. (distinct : Bool) → query_fault task (query_of skeleton (preds_of o.preds.now c.choice-item.result) r.picks distinct) ≡ None) rs) (sym is)
@@ -34,6 +34,6 @@ pub returns : goal.returns
 returns c =
     let o = c.args.offer.now in
     let task = c.args.self.now.task.now in
-    let is : c.as_slice-readings.result.now ≡ readings o.types.now o.candidates.now task.output = c.as_slice-readings.ensures ∙ c.in_ok-list.ensures ∙ ap (readings o.types.now o.candidates.now) c.output.ensures in
+    let is : c.as_slice-readings.result.now ≡ readings o.types.now o.candidates.now task.output = c.as_slice-readings.ensures ∙ c.requires.found in
     all_read task c.args.self.now.number (tree c.args.self.now.skeleton.now) o.types.now o.preds.now o.candidates.now o.choices.now c.as_slice-readings.result.now (ranked_queries c.args.store.now) (ranked_queries c.loop-choice.store) c.loop-choice.choice-index
     is c.requires.wide (omega (arith, c.loop-choice-test.false)) c.loop-choice.invariant
