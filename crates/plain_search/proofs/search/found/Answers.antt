@@ -7,8 +7,8 @@ use Rattle.skeleton_graph.proofs.TreeLaws.{trees_size}
 use Rattle.plain_search.proofs.FoundLaws.{found_all, found_more}
 use Rattle.plain_search.proofs.search.found.Goals as goal
 
-pub push_answers-requires : goal.push_answers-requires
-push_answers-requires c = ap (λ trees. slice_get trees c.loop-number.number) (sym c.requires) ∙ c.in_ok-skeleton.ensures
+pub push_answers-requires-clause-skeleton : goal.push_answers-requires-clause-skeleton
+push_answers-requires-clause-skeleton c = ap (λ trees. slice_get trees c.loop-number.number) (sym c.requires) ∙ c.in_ok-skeleton.ensures
 
 pub loop-number-preserved : goal.loop-number-preserved
 loop-number-preserved c =
