@@ -1,5 +1,5 @@
 -- The rows that a search keeps are those of its nodes' parts.
-use Rattle.std.proofs.Common.{◌≡◌, ℕ, ◌<◌, ◌≤◌, arith, zero, suc, true, false, Bool, ◌&&◌, is_some, List, [], ◌∷◌, ◌++◌, length, Option, Some, None, refl, sym, ap, subst, ◌∙◌, tt, absurd}
+use Rattle.std.proofs.Common.{◌≡◌, ℕ, ◌<◌, ◌≤◌, arith, zero, suc, true, false, Bool, ◌&&◌, is_some, List, [], ◌∷◌, ◌++◌, length, Option, Some, None, refl, sym, ap, subst, ◌∙◌, ◌⊎◌, inl, inr}
 use Rattle.std.specs.Prelude.{slice_get, option_and_then, IfSome}
 use Rattle.std.proofs.lemmas.Option.{same_Some, slice_get_within}
 use Rattle.table_core.specs.declared.task.TaskParts.{TaskParts}
@@ -21,16 +21,16 @@ MayBeRowOf task tree None = Unit {0}
 MayBeRowOf task tree (Some row) = IsRowOf task tree row
 
 part_of : (task : TaskParts) (tree : Tree) (row : Option Row) → MayBeRowOf task tree row → is_some row ≡ true → IsPartOf task tree row
-part_of task tree None may ()
+part_of task tree None may there = cc
 part_of task tree (Some row) may there = may
 
 first_of : (a b : Bool) → a && b ≡ true → a ≡ true
 first_of true b both = refl
-first_of false b ()
+first_of false b both = cc
 
 second_of : (a b : Bool) → a && b ≡ true → b ≡ true
 second_of true b both = both
-second_of false b ()
+second_of false b both = cc
 
 parts_of : (task : TaskParts) (k : Kind) (a b : Tree) (left right : Option Row) → MayBeRowOf task a left → MayBeRowOf task b right → has_parts (kind_tree k a b) left right ≡ true → ArePartsOf task (kind_tree k a b) left right
 parts_of task (kind.Base table) a b left right l r there = tt
