@@ -1,5 +1,5 @@
 -- The abstract cell of an aggregate, over the cells of its column in the rows of a group of which any part may be left.
-use Rattle.std.specs.Prelude.{ℕ, ℤ, pos, neg_ℤ, ◌+ℤ◌, ◌-◌, ◌^◌, int_lt, Bool, not, ◌||◌, false, List, [], ◌∷◌, ◌++◌, map, if◌then◌else◌}
+use Rattle.std.specs.Prelude.{ℕ, ℤ, pos, neg_ℤ, ◌+ℤ◌, ◌-◌, ◌^◌, int_lt, Bool, not, ◌||◌, false, List, [], ◌∷◌, map, if◌then◌else◌}
 use Rattle.std.specs.Prelude.{filter as list_filter}
 use Rattle.std.specs.List.{list_any}
 use Rattle.value_core.specs.Value.{same, is_null}
@@ -7,7 +7,7 @@ use Rattle.value_core.specs.declared.value.Value.{Value}
 use Rattle.query_core.specs.Groups.{number_of}
 use Rattle.over_cells.specs.Cells.{value_of, are_known}
 use Rattle.over_cells.specs.declared.cell.AbsCell.{AbsCell}
-use Rattle.over_cells.specs.declared.cell.AbsCell.TheVariants.{Known, From, Within, Any}
+use Rattle.over_cells.specs.declared.cell.AbsCell.TheVariants.{From, Within, Any}
 use Rattle.over_cells.specs.declared.cell.AggKind.{AggKind}
 use Rattle.over_cells.specs.declared.cell.AggKind.TheVariants.{CountAll, Count, CountDistinct, Sum, Min, Max}
 

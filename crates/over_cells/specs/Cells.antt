@@ -1,5 +1,5 @@
 -- Abstract cells, and the values that they cover.
-use Rattle.std.specs.Prelude.{ℤ, int_le, Bool, true, false, ◌&&◌, List, map, if◌then◌else◌}
+use Rattle.std.specs.Prelude.{ℤ, int_le, Bool, true, false, ◌&&◌, List, if◌then◌else◌}
 use Rattle.std.specs.List.{list_all, list_any}
 use Rattle.value_core.specs.Value.{same, is_null}
 use Rattle.value_core.specs.declared.value.Value.{Value}
