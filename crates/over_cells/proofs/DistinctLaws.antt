@@ -1,12 +1,13 @@
 -- Laws of distinct values.
-use Rattle.std.proofs.Common.{◌≡◌, Bool, true, false, not, ◌||◌, List, [], ◌∷◌, ◌++◌, refl, sym, ap, ◌∙◌, inl, inr, append_assoc, append-nil}
+use Rattle.std.proofs.Common.{◌≡◌, ℕ, ◌+◌, ◌<◌, length, drop, get_or, Bool, true, false, not, ◌||◌, List, [], ◌∷◌, ◌++◌, refl, sym, ap, ◌∙◌, inl, inr}
 use Rattle.std.specs.Prelude.{filter}
 use Rattle.std.specs.List.{list_any}
 use Rattle.std.proofs.lemmas.Bool.{cases_Bool}
+use Rattle.std.proofs.lemmas.List.{append_assoc, append-nil, drop_more}
 use Rattle.std.proofs.lemmas.List.Folds.{list_any-append}
 use Rattle.value_core.specs.Value.{same, is_null}
 use Rattle.value_core.specs.declared.value.Value.{Value}
-use Rattle.over_cells.specs.Aggregates.{distinct_after}
+use Rattle.over_cells.specs.Aggregates.{distinct_after, distinct}
 
 -- two lists have the same values
 abbrev Alike : List Value → List Value → Type 0
@@ -53,3 +54,9 @@ distinct_turn out vs v =
       | inl null ↦ rw (null, append-nil out) refl
       | inr other ↦ rw (other) (value_turn out (filter (λ w. not (is_null w)) vs) v)
     ]
+
+-- the turn of a loop over values that gathers the distinct ones
+pub distinct_step : (values out more : List Value) (i : ℕ) (v : Value) → i < length values → v ≡ get_or values i v → more ≡ out ++ distinct_after out (filter (λ w. not (is_null w)) (v ∷ [])) → out ++ distinct_after out (filter (λ w. not (is_null w)) (drop i values)) ≡ distinct values → more ++ distinct_after more (filter (λ w. not (is_null w)) (drop (i + 1) values)) ≡ distinct values
+distinct_step values out more i v below is kept before =
+    let next = rw (← is) at (drop_more values i v below) in
+    rw (kept) (distinct_turn out (drop (i + 1) values) v ∙ (ap (λ rest. out ++ distinct_after out (filter (λ w. not (is_null w)) rest)) (sym next) ∙ before))

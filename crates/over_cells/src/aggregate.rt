@@ -1,6 +1,7 @@
 ghost use Rattle.std.specs.Prelude.{◌≡◌, ◌<◌, ◌^◌, map, pos, false, IfOk, if◌then◌else◌};
 ghost use Rattle.over_cells.specs.Cells.{value_of, are_known};
 ghost use Rattle.over_cells.specs.Aggregates.{one_of, sum_within, agg_cell};
+ghost use Rattle.over_cells.specs.declared.cell.AbsCell.TheVariants.{Within, Any};
 
 use crate::cell::{AbsCell, AggKind};
 use crate::values::{distinct, greatest_sum, least_sum, may_be_null};

@@ -1,5 +1,6 @@
 ghost use Rattle.std.specs.Prelude.{◌≡◌, ◌∷◌, ◌++◌, [], not, filter, IfOk, OnOk};
-ghost use Rattle.value_core.specs.Value.{is_null};
+ghost use Rattle.std.specs.List.{list_any};
+ghost use Rattle.value_core.specs.Value.{same, is_null};
 ghost use Rattle.query_core.specs.Groups.{number_of};
 ghost use Rattle.over_cells.specs.Cells.{is_from, is_within};
 ghost use Rattle.over_cells.specs.Aggregates.{distinct_after, distinct, below_0, above_0, negatives, positives, cut, may_be_null};
@@ -19,14 +20,29 @@ pub(crate) fn copied(alloc: Global, values: &[Value]) -> Result<Items<Value>, Ou
     Ok(out)
 }
 
+// Whether a value is among these values.
+fn has_value(values: &[Value], value: &Value) -> bool
+    ensures { result ≡ list_any (same value.now) values.now }
+{
+    values.iter().any(|other| same(value, other))
+}
+
+// Whether one of these values is NULL.
+fn has_null(values: &[Value]) -> bool
+    ensures { result ≡ list_any is_null values.now }
+{
+    values.iter().any(|value| value.is_null())
+}
+
 // Whether a value is NULL where it may be, or one of these.
 pub(crate) fn is_from(values: &[Value], null: bool, value: &Value) -> bool
     ensures { result ≡ is_from values.now null value.now }
 {
     if value.is_null() {
-        return null;
+        null
+    } else {
+        has_value(values, value)
     }
-    values.iter().any(|other| same(value, other))
 }
 
 // Whether a value is NULL where it may be, or a number within these bounds.
@@ -44,7 +60,7 @@ pub(crate) fn is_within(lo: i64, hi: i64, null: bool, value: &Value) -> bool
 fn push_distinct(alloc: Global, out: &mut Items<Value>, value: &Value) -> Result<(), OutOfMemory>
     ensures { OnOk result (out.new ≡ out.old ++ distinct_after out.old (filter (λ v. not (is_null v)) (value.now ∷ []))) }
 {
-    if !value.is_null() && !is_from(out.as_slice(), false, value) {
+    if !value.is_null() && !has_value(out.as_slice(), value) {
         out.push(value.copy(alloc)?)?;
     }
     Ok(())
@@ -134,5 +150,5 @@ pub(crate) fn greatest_sum(values: &[Value]) -> i64
 pub(crate) fn may_be_null(keyed: bool, values: &[Value]) -> bool
     ensures { result ≡ may_be_null keyed values.now }
 {
-    !keyed || values.iter().any(|value| value.is_null())
+    !keyed || has_null(values)
 }

@@ -6,4 +6,4 @@ abbrev pub invariant-loop-value : goal.invariant-loop-value
 invariant-loop-value l =
     (l.total +ℤ negatives (drop l.value-index l.values) ≡ negatives l.values)
     × (neg_ℤ (pos (2 ^ 63 * l.value-index)) ≤ℤ l.total)
-    × (l.total ≤ℤ pos 0)
+    × (l.total ≤ℤ pos (2 ^ 63 * l.value-index))
