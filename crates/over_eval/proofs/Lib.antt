@@ -1,1 +1,2 @@
+pub mod AllLaws
 pub mod RowLaws

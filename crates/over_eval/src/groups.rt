@@ -69,11 +69,7 @@ fn known_groups(
 }
 
 // A row of any value for each of these rows.
-fn any_groups(
-    alloc: Global,
-    keys: &[usize],
-    over: &[AbsRow],
-) -> Result<Items<AbsRow>, OutOfMemory>
+fn any_groups(alloc: Global, keys: &[usize], over: &[AbsRow]) -> Result<Items<AbsRow>, OutOfMemory>
     ensures { IfOk result (λ out. out ≡ map (any_group keys.now) over.now) }
 {
     let mut out = Items::new(alloc);

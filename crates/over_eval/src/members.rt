@@ -138,5 +138,11 @@ pub fn cell_of(
 {
     let cells = agg_cells(alloc, agg, members)?;
     let count = members.len() as u64;
-    agg_cell(alloc, agg_kind(agg), has_keys(keys), cells.as_slice(), count)
+    agg_cell(
+        alloc,
+        agg_kind(agg),
+        has_keys(keys),
+        cells.as_slice(),
+        count,
+    )
 }

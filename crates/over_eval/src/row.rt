@@ -21,11 +21,7 @@ impl Model for AbsRow {
 }
 
 // Appends copies of these cells.
-fn push_cells(
-    alloc: Global,
-    out: &mut Vec<AbsCell>,
-    cells: &[AbsCell],
-) -> Result<(), OutOfMemory>
+fn push_cells(alloc: Global, out: &mut Vec<AbsCell>, cells: &[AbsCell]) -> Result<(), OutOfMemory>
     ensures { OnOk result (out.new.items ≡ out.old.items ++ cells.now) }
 {
     for cell in cells {
@@ -58,11 +54,7 @@ impl AbsRow {
     }
 
     /// The row of these cells, and then of those.
-    pub fn pair(
-        alloc: Global,
-        left: &[AbsCell],
-        right: &[AbsCell],
-    ) -> Result<AbsRow, OutOfMemory>
+    pub fn pair(alloc: Global, left: &[AbsCell], right: &[AbsCell]) -> Result<AbsRow, OutOfMemory>
         ensures { IfOk result (λ row. row ≡ left.now ++ right.now) }
     {
         let mut cells = Vec::new(alloc);

@@ -1,5 +1,5 @@
 ghost use Rattle.std.specs.Prelude.{◌≡◌, nat_le};
-ghost use Rattle.std.specs.List.{list_all, list_any};
+ghost use Rattle.std.specs.List.{list_any};
 ghost use Rattle.table_core.specs.Bag.{count};
 ghost use Rattle.over_cells.specs.Cells.{covers};
 ghost use Rattle.over_eval.specs.Over.{cell_at, cells_at};
@@ -71,19 +71,16 @@ fn serves_row(over: &[AbsRow], output: &[Tuple], picks: &[usize], row: &[Value])
     copies <= covering
 }
 
-// Whether each of some rows of an output is covered by as many abstract rows as it has copies.
-fn serves_rows(over: &[AbsRow], output: &[Tuple], picks: &[usize], some: &[Tuple]) -> bool
-    ensures { result ≡ list_all (λ row. nat_le (count output.now row) (covering picks.now over.now row)) some.now }
-{
-    some.iter()
-        .all(|row| serves_row(over, output, picks, row.cells()))
-}
-
 /// Whether each row of an output is covered by as many abstract rows as it has copies, by these columns. It takes no memory.
 pub fn can_serve(over: &[AbsRow], output: &[Tuple], picks: &[usize]) -> bool
     ensures { result ≡ can_serve over.now output.now picks.now }
 {
-    serves_rows(over, output, picks, output)
+    for row in output {
+        if !serves_row(over, output, picks, row.cells()) {
+            return false;
+        }
+    }
+    true
 }
 
 /// Whether abstract rows can serve an output by one of these maps. It takes no memory.
