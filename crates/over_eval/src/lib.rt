@@ -1,2 +1,8 @@
 //! Abstract rows: what the rows of a skeleton can be under every choice of predicates, and which skeletons can give the output.
 #![tactic(auto)]
+
+mod laws;
+
+pub use laws::{
+    never_where_a_part_has_no_rows, rows_are_covered, what_is_not_live_has_no_answer,
+};
