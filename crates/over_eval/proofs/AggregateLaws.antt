@@ -18,7 +18,7 @@ use Rattle.query_core.specs.Firsts.{firsts}
 use Rattle.query_core.specs.Groups.{values_of, counted, distinct_values, exact_sum, is_within_64, sum_of, smaller, larger, smallest, largest, aggregate}
 use Rattle.query_core.specs.declared.agg.Agg.{Agg}
 use Rattle.query_core.specs.declared.agg.Agg.TheVariants as agg
-use Rattle.query_laws.proofs.MemberLaws.{in_filter, filter_in}
+use Rattle.query_laws.proofs.MemberLaws.{in_equal, in_filter, filter_in}
 use Rattle.over_cells.specs.Cells.{is_from, is_within, covers, value_of, is_known, are_known}
 use Rattle.over_cells.specs.Aggregates.{distinct_after, distinct, negatives, positives, may_be_null, one_of, sum_within, agg_cell}
 use Rattle.over_cells.specs.declared.cell.AbsCell.{AbsCell}
@@ -28,7 +28,7 @@ use Rattle.over_eval.specs.Placed.{Placed}
 use Rattle.over_eval.specs.Laws.{IsCovered, AreCovered}
 use Rattle.over_eval.proofs.PlacedLaws.{PartOf, part_filtered, placed_all, placed_length, placed_map, placed_onto, in_whole}
 use Rattle.over_eval.proofs.StepLaws.{covered_cell, firsts_placed}
-use Rattle.over_eval.proofs.SumLaws.{not_null, sum_not_null, sum_between, sum_within_cut}
+use Rattle.over_eval.proofs.SumLaws.{not_null, sum_not_null, sum_between, at_most, at_least, sum_within_cut}
 
 -- The values of a column, and its cells.
 
@@ -91,16 +91,17 @@ counted_some m n most = and_from (int_le (pos 0) (pos m)) (int_le (pos m) (pos n
 -- no more values than rows, and no more distinct ones than values
 values_most : (column : ℕ) (group : List Row) → length (values_of column group) ≤ length group
 values_most column group =
-    let vs = map (λ row. value_at row column) group in
+    let vs = column_values column group in
     let most = placed_length (λ (a b : Value). a ≡ b) (filter not_null vs) vs (part_filtered not_null vs) in
     let long = length-map group (λ row. value_at row column) in
     omega (arith, most, long)
 
 distinct_most : (values : List Value) → length (distinct_values values) ≤ length values
 distinct_most values =
-    let made = map (λ v. v ∷ []) values in
+    let single : Value → Row = λ v. v ∷ [] in
+    let made = map single values in
     let most = placed_length (λ (a b : Row). a ≡ b) (firsts made) made (firsts_placed made) in
-    let long = length-map values (λ v. v ∷ []) in
+    let long = length-map values single in
     omega (arith, most, long)
 
 -- NULL, where no value is left.
@@ -113,7 +114,7 @@ null_fits true (v ∷ vs) ws some part none =
       | inl null ↦ any_by is_null v ws (in_whole v (v ∷ vs) ws part (inl refl)) null
       | inr some_value ↦ absurd (
           let i : In v (filter not_null (v ∷ vs)) = filter_in not_null v (v ∷ vs) (rw some_value refl) (inl refl) in
-          rw none at i)
+          in_equal v (filter not_null (v ∷ vs)) [] none i)
     ]
 
 -- Smallest and largest values.
@@ -162,7 +163,7 @@ picked_from : (pick : List Value → Value) → pick [] ≡ Null → ((v : Value
 picked_from pick empty one keyed vs ws some part [] is = rw empty (null_fits keyed vs ws some part is)
 picked_from pick empty one keyed vs ws some part (u ∷ us) is =
     let v = pick (u ∷ us) in
-    let i : In v (filter not_null vs) = rw is (one u us) in
+    let i : In v (filter not_null vs) = in_equal v (u ∷ us) (filter not_null vs) (sym is) (one u us) in
     let h = in_filter not_null v vs i in
     let some_value : is_null v ≡ false = not-true (is_null v) h.1 in
     let listed = any_by (same v) v (distinct ws) (in_distinct v ws some_value (in_whole v vs ws part h.0)) ((same_decides v v).1 refl) in
@@ -179,7 +180,7 @@ sum_fits keyed vs ws value some part (u ∷ us) is gives =
     let same_sum : exact_sum vs ≡ n = sym (sum_not_null vs) ∙ ap exact_sum is in
     let bounds = sum_between vs ws part in
     let null = may_be_null keyed ws in
-    subst (λ (v : Value). covers (sum_within keyed ws) v ≡ true) h.1 (sum_within_cut (negatives ws) (positives ws) n null (rw same_sum at bounds.0) (rw same_sum at bounds.1) h.0)
+    subst (λ (v : Value). covers (sum_within keyed ws) v ≡ true) h.1 (sum_within_cut (negatives ws) (positives ws) n null (at_least n (exact_sum vs) (negatives ws) (sym same_sum) bounds.0) (at_most n (exact_sum vs) (positives ws) (sym same_sum) bounds.1) h.0)
 
 -- The cell of each aggregate covers what the aggregate gives.
 

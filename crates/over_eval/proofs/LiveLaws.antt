@@ -95,8 +95,9 @@ none_kept p (x ∷ xs) none = rw (none x (inl refl)) (none_kept p xs (λ y i. no
 -- the law of one skeleton
 pub only_live_answer : (task : TaskParts) → OnlyLiveAnswer task
 only_live_answer task n skeleton dead =
+    let make : Select → Numbered = λ q. record { skeleton = n; query = q } in
     none_kept (is_answer task) (numbered task (n, skeleton)) (λ m i.
-    let h = in_map (λ q. record { skeleton = n; query = q }) m (queries_of task skeleton) i in
+    let h = in_map make m (queries_of task skeleton) i in
     false_from_ne_true (is_answer task m) (λ e.
     let both = and_parts (is_standard task m.query) (gives task m.query) e in
     let given_out : gives task h.0 ≡ true = ap (gives task) (sym (ap (λ k. k.query) h.2)) ∙ both.1 in

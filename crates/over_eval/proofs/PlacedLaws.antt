@@ -60,12 +60,12 @@ takes_dropped : {X : Type 0} (p : X → Bool) {x : X} (xs : List X) {rest : List
 takes_dropped p (x ∷ xs) dropped here = rw dropped refl
 takes_dropped p (y ∷ ys) dropped (later t) = let next = takes_dropped p ys dropped t in rw next refl
 
-takes_all : {X : Type 0} (p : X → Bool) {x : X} (xs : List X) {rest : List X} → Takes x xs rest → list_all p xs ≡ true → (p x ≡ true) × (list_all p rest ≡ true)
-takes_all p (x ∷ xs) here all = and_parts (p x) (list_all p xs) all
-takes_all p (y ∷ ys) (later t) all =
+takes_all : {X : Type 0} (p : X → Bool) (x : X) (xs rest : List X) → Takes x xs rest → list_all p xs ≡ true → (p x ≡ true) × (list_all p rest ≡ true)
+takes_all p x (y ∷ ys) rest here all = and_parts (p x) (list_all p rest) all
+takes_all p x (y ∷ ys) (z ∷ rest) (later t) all =
     let both = and_parts (p y) (list_all p ys) all in
-    let rest = takes_all p ys t both.1 in
-    (rest.0, and_from (p y) _ both.0 rest.1)
+    let more = takes_all p x ys rest t both.1 in
+    (more.0, and_from (p y) (list_all p rest) both.0 more.1)
 
 -- Placed elements, and their composition.
 
@@ -209,7 +209,7 @@ placed_filter R p q each (x ∷ xs) ys h =
 
 pub placed_all : {X Y : Type 0} (R : X → Y → Type 0) (q : Y → Bool) (xs : List X) (ys : List Y) → list_all q ys ≡ true → Placed R xs ys → Placed (λ x y. R x y × (q y ≡ true)) xs ys
 placed_all R q [] ys all h = tt
-placed_all R q (x ∷ xs) ys all h = let one = takes_all q ys h.2 all in (h.0, h.1, h.2, (h.3, one.0), placed_all R q xs h.1 one.1 h.4)
+placed_all R q (x ∷ xs) ys all h = let one = takes_all q h.0 ys h.1 h.2 all in (h.0, h.1, h.2, (h.3, one.0), placed_all R q xs h.1 one.1 h.4)
 
 pub part_filtered : {X : Type 0} (p : X → Bool) (xs : List X) → PartOf (filter p xs) xs
 part_filtered p [] = tt
