@@ -50,22 +50,22 @@ in_takes {X} x (y ∷ ys) (inl e) = (ys, subst (λ (z : X). Takes z (y ∷ ys) y
 in_takes x (y ∷ ys) (inr i) = let h = in_takes x ys i in (y ∷ h.0, later h.1)
 
 -- what is taken out of a filtered list
-takes_kept : {X : Type 0} (p : X → Bool) {x : X} (xs : List X) {rest : List X} → p x ≡ true → Takes x xs rest → Takes x (filter p xs) (filter p rest)
-takes_kept p (x ∷ xs) kept here = rw kept here
-takes_kept p (y ∷ ys) kept (later t) =
-    let next = takes_kept p ys kept t in
-    elim (cases_Bool (p y)) [ inl is ↦ rw is (later next) | inr is ↦ rw is next ]
+takes_kept : {X : Type 0} (p : X → Bool) {x : X} {xs rest : List X} → Takes x xs rest → p x ≡ true → Takes x (filter p xs) (filter p rest)
+takes_kept p here kept = rw kept here
+takes_kept p (later {y = w} t) kept =
+    let next = takes_kept p t kept in
+    elim (cases_Bool (p w)) [ inl is ↦ rw is (later next) | inr is ↦ rw is next ]
 
-takes_dropped : {X : Type 0} (p : X → Bool) {x : X} (xs : List X) {rest : List X} → p x ≡ false → Takes x xs rest → filter p xs ≡ filter p rest
-takes_dropped p (x ∷ xs) dropped here = rw dropped refl
-takes_dropped p (y ∷ ys) dropped (later t) = let next = takes_dropped p ys dropped t in rw next refl
+takes_dropped : {X : Type 0} (p : X → Bool) {x : X} {xs rest : List X} → Takes x xs rest → p x ≡ false → filter p xs ≡ filter p rest
+takes_dropped p here dropped = rw dropped refl
+takes_dropped p (later t) dropped = let next = takes_dropped p t dropped in rw next refl
 
-takes_all : {X : Type 0} (p : X → Bool) (x : X) (xs rest : List X) → Takes x xs rest → list_all p xs ≡ true → (p x ≡ true) × (list_all p rest ≡ true)
-takes_all p x (y ∷ ys) rest here all = and_parts (p x) (list_all p rest) all
-takes_all p x (y ∷ ys) (z ∷ rest) (later t) all =
-    let both = and_parts (p y) (list_all p ys) all in
-    let more = takes_all p x ys rest t both.1 in
-    (more.0, and_from (p y) (list_all p rest) both.0 more.1)
+takes_all : {X : Type 0} (p : X → Bool) {x : X} {xs rest : List X} → Takes x xs rest → list_all p xs ≡ true → (p x ≡ true) × (list_all p rest ≡ true)
+takes_all p (here {x = w} {xs = ws}) all = and_parts (p w) (list_all p ws) all
+takes_all p (later {y = w} {xs = ws} {rest = others} t) all =
+    let both = and_parts (p w) (list_all p ws) all in
+    let more = takes_all p t both.1 in
+    (more.0, and_from (p w) (list_all p others) both.0 more.1)
 
 -- Placed elements, and their composition.
 
@@ -167,12 +167,12 @@ placed_from R S f each [] ys h = tt
 placed_from R S f each (x ∷ xs) ys h = (h.0, h.1, h.2, each x h.0 h.3, placed_from R S f each xs h.1 h.4)
 
 -- what a function gives of an element that is taken out, and of the rest
-taken_flat_map : {Y V : Type 0} (g : Y → List V) (y : Y) (ys rest : List Y) → Takes y ys rest → PartOf (g y ++ flat_map g rest) (flat_map g ys)
-taken_flat_map g y (z ∷ ys) rest here = part_whole (g y ++ flat_map g rest)
-taken_flat_map g y (w ∷ ys) (v ∷ rest) (later t) =
+taken_flat_map : {Y V : Type 0} (g : Y → List V) {y : Y} {ys rest : List Y} → Takes y ys rest → PartOf (g y ++ flat_map g rest) (flat_map g ys)
+taken_flat_map g (here {x = y} {xs = ys}) = part_whole (g y ++ flat_map g ys)
+taken_flat_map {Y} {V} g (later {x = y} {y = w} {xs = ys} {rest = rest} t) =
     part_part (g y ++ (g w ++ flat_map g rest)) (g w ++ (g y ++ flat_map g rest)) (g w ++ flat_map g ys)
     (part_swap (g y) (g w) (flat_map g rest))
-    (placed_append (λ a b. a ≡ b) (g w) (g y ++ flat_map g rest) (g w) (flat_map g ys) (part_whole (g w)) (taken_flat_map g y ys rest t))
+    (placed_append (λ (a b : V). a ≡ b) (g w) (g y ++ flat_map g rest) (g w) (flat_map g ys) (part_whole (g w)) (taken_flat_map g t))
 
 pub placed_flat_map : {X Y U V : Type 0} (R : X → Y → Type 0) (S : U → V → Type 0) (f : X → List U) (g : Y → List V) → ((x : X) (y : Y) → R x y → Placed S (f x) (g y))
     → (xs : List X) (ys : List Y) → Placed R xs ys → Placed S (flat_map f xs) (flat_map g ys)
@@ -180,16 +180,17 @@ placed_flat_map R S f g each [] ys h = tt
 placed_flat_map R S f g each (x ∷ xs) ys h =
     places_part S (f x ++ flat_map f xs) (g h.0 ++ flat_map g h.1) (flat_map g ys)
     (placed_append S (f x) (flat_map f xs) (g h.0) (flat_map g h.1) (each x h.0 h.3) (placed_flat_map R S f g each xs h.1 h.4))
-    (taken_flat_map g h.0 ys h.1 h.2)
+    (taken_flat_map g h.2)
 
 -- what a function gives of each element, each time with one element more behind it: those elements may stand behind all
 pub part_last : {Y V : Type 0} (g : Y → List V) (last : Y → V) (ys : List Y) → PartOf (flat_map (λ y. g y ++ last y ∷ []) ys) (flat_map g ys ++ map last ys)
 part_last g last [] = tt
-part_last g last (y ∷ ys) =
-    let each = flat_map (λ y. g y ++ last y ∷ []) ys in
+part_last {Y} {V} g last (y ∷ ys) =
+    let with_last : Y → List V = λ z. g z ++ last z ∷ [] in
+    let each = flat_map with_last ys in
     let rest = flat_map g ys ++ map last ys in
     part_part ((g y ++ last y ∷ []) ++ each) ((g y ++ last y ∷ []) ++ rest) ((g y ++ flat_map g ys) ++ (last y ∷ map last ys))
-    (placed_append (λ a b. a ≡ b) (g y ++ last y ∷ []) each (g y ++ last y ∷ []) rest (part_whole (g y ++ last y ∷ [])) (part_last g last ys))
+    (placed_append (λ (a b : V). a ≡ b) (g y ++ last y ∷ []) each (g y ++ last y ∷ []) rest (part_whole (g y ++ last y ∷ [])) (part_last g last ys))
     (part_middle (g y) (last y ∷ []) (flat_map g ys) (map last ys))
 
 -- Filtered lists.
@@ -200,23 +201,23 @@ placed_filter R p q each [] ys h = tt
 placed_filter R p q each (x ∷ xs) ys h =
     let rest = placed_filter R p q each xs h.1 h.4 in
     elim (cases_Bool (p x)) [
-      | inl kept ↦ rw kept (h.0, filter q h.1, takes_kept q ys (each x h.0 h.3 kept) h.2, h.3, rest)
+      | inl kept ↦ rw kept (h.0, filter q h.1, takes_kept q h.2 (each x h.0 h.3 kept), h.3, rest)
       | inr left ↦ rw left (elim (cases_Bool (q h.0)) [
-        | inl some ↦ placed_more R (filter p xs) (takes_kept q ys some h.2) rest
-        | inr none ↦ let same = takes_dropped q ys none h.2 in rw same rest
+        | inl some ↦ placed_more R (filter p xs) (takes_kept q h.2 some) rest
+        | inr none ↦ let same = takes_dropped q h.2 none in rw same rest
       ])
     ]
 
 pub placed_all : {X Y : Type 0} (R : X → Y → Type 0) (q : Y → Bool) (xs : List X) (ys : List Y) → list_all q ys ≡ true → Placed R xs ys → Placed (λ x y. R x y × (q y ≡ true)) xs ys
 placed_all R q [] ys all h = tt
-placed_all R q (x ∷ xs) ys all h = let one = takes_all q h.0 ys h.1 h.2 all in (h.0, h.1, h.2, (h.3, one.0), placed_all R q xs h.1 one.1 h.4)
+placed_all R q (x ∷ xs) ys all h = let one = takes_all q h.2 all in (h.0, h.1, h.2, (h.3, one.0), placed_all R q xs h.1 one.1 h.4)
 
 pub part_filtered : {X : Type 0} (p : X → Bool) (xs : List X) → PartOf (filter p xs) xs
 part_filtered p [] = tt
-part_filtered p (x ∷ xs) =
+part_filtered {X} p (x ∷ xs) =
     elim (cases_Bool (p x)) [
       | inl kept ↦ rw kept (x, xs, here, refl, part_filtered p xs)
-      | inr left ↦ rw left (placed_more (λ a b. a ≡ b) (filter p xs) here (part_filtered p xs))
+      | inr left ↦ rw left (placed_more (λ (a b : X). a ≡ b) (filter p xs) here (part_filtered p xs))
     ]
 
 -- What stands in a list to which another is related.

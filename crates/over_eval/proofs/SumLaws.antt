@@ -29,13 +29,13 @@ sum_not_null (Text s ∷ vs) = ap (λ s. pos 0 +ℤ s) (sum_not_null vs)
 swap_sums : (a b c d : ℤ) → d ≡ b +ℤ c → a +ℤ d ≡ b +ℤ (a +ℤ c)
 swap_sums a b c d e = omega (arith, ints)
 
-taken_negatives : (v : Value) (ws rest : List Value) → Takes v ws rest → negatives ws ≡ below_0 (number_of v) +ℤ negatives rest
-taken_negatives v (w ∷ ws) rest here = refl
-taken_negatives v (w ∷ ws) (u ∷ rest) (later t) = swap_sums (below_0 (number_of w)) (below_0 (number_of v)) (negatives rest) (negatives ws) (taken_negatives v ws rest t)
+taken_negatives : {v : Value} {ws rest : List Value} → Takes v ws rest → negatives ws ≡ below_0 (number_of v) +ℤ negatives rest
+taken_negatives here = refl
+taken_negatives (later {x = v} {y = w} {xs = ws} {rest = rest} t) = swap_sums (below_0 (number_of w)) (below_0 (number_of v)) (negatives rest) (negatives ws) (taken_negatives t)
 
-taken_positives : (v : Value) (ws rest : List Value) → Takes v ws rest → positives ws ≡ above_0 (number_of v) +ℤ positives rest
-taken_positives v (w ∷ ws) rest here = refl
-taken_positives v (w ∷ ws) (u ∷ rest) (later t) = swap_sums (above_0 (number_of w)) (above_0 (number_of v)) (positives rest) (positives ws) (taken_positives v ws rest t)
+taken_positives : {v : Value} {ws rest : List Value} → Takes v ws rest → positives ws ≡ above_0 (number_of v) +ℤ positives rest
+taken_positives here = refl
+taken_positives (later {x = v} {y = w} {xs = ws} {rest = rest} t) = swap_sums (above_0 (number_of w)) (above_0 (number_of v)) (positives rest) (positives ws) (taken_positives t)
 
 below_least : (n : ℤ) → (below_0 n ≤ℤ n) × (below_0 n ≤ℤ pos 0)
 below_least n = (grind (arith, ints), grind (arith, ints))
@@ -73,9 +73,9 @@ sum_between (v ∷ vs) ws h =
     let rest = sum_between vs h.1 h.4 in
     let w = number_of h.0 in
     let same : number_of v ≡ w = ap number_of h.3 in (
-      at_most (negatives ws) (below_0 w +ℤ negatives h.1) (number_of v +ℤ exact_sum vs) (taken_negatives h.0 ws h.1 h.2)
+      at_most (negatives ws) (below_0 w +ℤ negatives h.1) (number_of v +ℤ exact_sum vs) (taken_negatives h.2)
       (lower_more (below_0 w) (number_of v) (negatives h.1) (exact_sum vs) (at_least (number_of v) w (below_0 w) same (below_least w).0) rest.0),
-      at_least (positives ws) (above_0 w +ℤ positives h.1) (number_of v +ℤ exact_sum vs) (taken_positives h.0 ws h.1 h.2)
+      at_least (positives ws) (above_0 w +ℤ positives h.1) (number_of v +ℤ exact_sum vs) (taken_positives h.2)
       (lower_more (number_of v) (above_0 w) (exact_sum vs) (positives h.1) (at_most (number_of v) w (above_0 w) same (above_most w).0) rest.1),
     )
 
