@@ -79,13 +79,13 @@ giving_live : (task : TaskParts) (skeleton : Tree) (q : Select) → In q (querie
 giving_live task skeleton q i e =
     let of = in_queries_of task skeleton q i in
     let h = giving_rows task q (rows task.inputs task.constants q.body) e in
-    let by = filling_covered task skeleton q.body h.0 of.0 h.1 in
+    let serving = filling_covered task skeleton q.body h.0 of.0 h.1 in
     let picked : List ColType → List (List ℕ) = λ types. maps types (types_of task.output) in
     let listed : In q.picks (picked (columns task.inputs skeleton)) =
     subst (λ (types : List ColType). In q.picks (maps types (types_of task.output))) (filling_columns task skeleton q.body of.0) of.1 in
-    let served = can_serve_given q.picks (given q h.0) task.output.rows by.0 (given_placed q.picks q.distinct h.0 by.0 by.2) h.2 in
-    ap (serves_by (picked (columns task.inputs skeleton)) task.output.rows) by.1
-    ∙ any_by (can_serve by.0 task.output.rows) q.picks (picked (columns task.inputs skeleton)) listed served
+    let served = can_serve_given q.picks (given q h.0) task.output.rows serving.0 (given_placed q.picks q.distinct h.0 serving.0 serving.2) h.2 in
+    ap (serves_by (picked (columns task.inputs skeleton)) task.output.rows) serving.1
+    ∙ any_by (can_serve serving.0 task.output.rows) q.picks (picked (columns task.inputs skeleton)) listed served
 
 -- where no element passes a test, none is kept
 none_kept : {X : Type 0} (p : X → Bool) (xs : List X) → ((x : X) → In x xs → p x ≡ false) → filter p xs ≡ []
