@@ -1,15 +1,15 @@
 -- The cell of an aggregate covers what the aggregate gives of rows that are covered.
-use Rattle.std.proofs.Common.{◌≡◌, refl, sym, ap, ◌∙◌, subst, ℕ, pos, ◌≤◌, int_le, Bool, true, false, cond, not, ◌&&◌, ◌||◌, ◌⊎◌, inl, inr, List, [], ◌∷◌, map, length, Option, Some, None, if◌then◌else◌, arith}
+use Rattle.std.proofs.Common.{◌≡◌, refl, sym, ap, ◌∙◌, subst, ℕ, pos, ◌≤◌, int_le, Bool, true, false, ◌⊎◌, inl, inr, List, [], ◌∷◌, map, length, Some, if◌then◌else◌, arith}
 use Rattle.std.specs.Prelude.{filter}
-use Rattle.std.specs.List.{fold, list_all, list_any}
+use Rattle.std.specs.List.{fold, list_any}
 use Rattle.std.specs.Ordering.{is_lt}
-use Rattle.std.proofs.lemmas.Bool.{cases_Bool, cases_cond, cond_both, and_from, or_left, or_right, or_cases, false≢true, not-true}
+use Rattle.std.proofs.lemmas.Bool.{cases_Bool, and_from, or_left, or_right, or_cases, false≢true, not-true}
 use Rattle.std.proofs.lemmas.Int.{ints}
 use Rattle.std.proofs.lemmas.List.{length-map}
-use Rattle.std.proofs.lemmas.Option.{same_Some, none-some, cond_some}
+use Rattle.std.proofs.lemmas.Option.{same_Some, cond_some}
 use Rattle.value_core.specs.Value.{order, same, is_null}
 use Rattle.value_core.specs.declared.value.Value.{Value}
-use Rattle.value_core.specs.declared.value.Value.TheVariants.{Null, Int, Text}
+use Rattle.value_core.specs.declared.value.Value.TheVariants.{Null, Int}
 use Rattle.value_core.proofs.ValueLaws.{same_decides}
 use Rattle.predicate_core.specs.Truth.{value_at}
 use Rattle.predicate_core.proofs.OnceLists.{In, in_same}
@@ -19,7 +19,7 @@ use Rattle.query_core.specs.Groups.{values_of, counted, distinct_values, exact_s
 use Rattle.query_core.specs.declared.agg.Agg.{Agg}
 use Rattle.query_core.specs.declared.agg.Agg.TheVariants as agg
 use Rattle.query_laws.proofs.MemberLaws.{in_equal, in_filter, filter_in}
-use Rattle.over_cells.specs.Cells.{is_from, is_within, covers, value_of, is_known, are_known}
+use Rattle.over_cells.specs.Cells.{is_within, covers, value_of, is_known, are_known}
 use Rattle.over_cells.specs.Aggregates.{distinct_after, distinct, negatives, positives, may_be_null, one_of, sum_within, agg_cell}
 use Rattle.over_cells.specs.declared.cell.AbsCell.{AbsCell}
 use Rattle.over_cells.specs.declared.cell.AbsCell.TheVariants.{Known, From, Within, Any}

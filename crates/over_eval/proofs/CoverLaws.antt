@@ -1,8 +1,8 @@
 -- The rows of each filling of a skeleton are covered by the skeleton's abstract rows.
-use Rattle.std.proofs.Common.{◌≡◌, refl, sym, ap, ap₂, ◌∙◌, subst, ℕ, Bool, true, false, ◌||◌, inl, inr, List, ◌∷◌, ◌++◌, map, length, Option, Some, None, option_map, if◌then◌else◌}
+use Rattle.std.proofs.Common.{◌≡◌, refl, sym, ap, ap₂, ◌∙◌, subst, true, false, ◌||◌, inl, inr, List, ◌++◌, map, length, Option, Some, None, option_map}
 use Rattle.std.specs.Prelude.{filter}
 use Rattle.std.proofs.lemmas.Bool.{cases_Bool, cond_both, or_parts, false≢true}
-use Rattle.std.proofs.lemmas.Option.{same_Some, none-some}
+use Rattle.std.proofs.lemmas.Option.{none-some}
 use Rattle.predicate_core.specs.Truth.{keeps}
 use Rattle.predicate_core.proofs.OnceLists.{In}
 use Rattle.table_core.specs.Rows.{Row}

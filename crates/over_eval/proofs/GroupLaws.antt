@@ -1,16 +1,14 @@
 -- The rows of groups are covered.
-use Rattle.std.proofs.Common.{◌≡◌, refl, sym, ap, ap₂, ◌∙◌, subst, ℕ, zero, suc, ◌≤◌, Bool, true, false, inl, inr, List, [], ◌∷◌, ◌++◌, map, length, Option, Some, None, option_map, if◌then◌else◌, arith}
-use Rattle.std.specs.Prelude.{filter}
+use Rattle.std.proofs.Common.{◌≡◌, refl, sym, ap₂, ◌∙◌, subst, ℕ, zero, suc, ◌≤◌, true, false, inl, inr, List, [], ◌∷◌, map, length, Option, Some, None, option_map, arith}
 use Rattle.std.specs.List.{list_all}
 use Rattle.std.proofs.lemmas.Bool.{cases_Bool, and_parts, and_from, false≢true}
 use Rattle.std.proofs.lemmas.Option.{same_Some, none-some}
-use Rattle.value_core.specs.declared.value.Value.{Value}
 use Rattle.predicate_core.specs.Truth.{value_at}
 use Rattle.predicate_core.proofs.OnceLists.{In}
 use Rattle.table_core.specs.Rows.{Row}
 use Rattle.table_core.specs.Bag.{same_cells}
 use Rattle.query_core.specs.Firsts.{projected, firsts}
-use Rattle.query_core.specs.Groups.{aggregate, group_keys, members, group_row, all_some, grouped}
+use Rattle.query_core.specs.Groups.{group_keys, members, group_row, all_some, grouped}
 use Rattle.query_core.specs.declared.agg.Agg.{Agg}
 use Rattle.query_laws.proofs.FirstCopyLaws.{once_firsts, in_firsts}
 use Rattle.query_laws.proofs.GroupLaws.{row_of_key, in_members, group_row_is}
@@ -18,7 +16,6 @@ use Rattle.over_cells.specs.Cells.{covers, value_of, is_known, are_known}
 use Rattle.over_cells.specs.declared.cell.AbsCell.TheVariants.{Any}
 use Rattle.over_eval.specs.Over.{AbsRow, exact_row, cell_at, cells_at, plain, members_over, has_keys, cell_of, group_over, knows, any_group, groups_over}
 use Rattle.over_eval.specs.Placed.{Takes, Placed}
-use Rattle.over_eval.specs.Live.{covers_row}
 use Rattle.over_eval.specs.Laws.{IsCovered, AreCovered}
 use Rattle.over_eval.proofs.PlacedLaws.{PartOf, part_whole, part_places, once_part, in_whole, placed_all, placed_weaker, placed_onto, placed_from, placed_map, placed_filter, takes_map}
 use Rattle.over_eval.proofs.StepLaws.{covered_exact, covered_append, covered_cell, covered_picks, firsts_placed}

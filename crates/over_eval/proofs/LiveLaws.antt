@@ -1,6 +1,6 @@
 -- A skeleton that isn't live has no answer.
-use Rattle.std.proofs.Common.{◌≡◌, refl, sym, ap, ap₂, ◌∙◌, subst, ℕ, ◌≤◌, Bool, true, false, ◌&&◌, ◌==◌, nat_le, inl, inr, List, [], ◌∷◌, ◌++◌, map, length, Option, Some, None, option_map, if◌then◌else◌, arith}
-use Rattle.std.specs.Prelude.{filter, flat_map, count_by}
+use Rattle.std.proofs.Common.{◌≡◌, refl, sym, ap, ◌∙◌, subst, ℕ, ◌≤◌, Bool, true, false, ◌==◌, nat_le, inl, inr, List, [], ◌∷◌, ◌++◌, length, Option, Some, None, option_map, arith}
+use Rattle.std.specs.Prelude.{filter, flat_map}
 use Rattle.std.specs.List.{enumerate_from}
 use Rattle.std.proofs.lemmas.Bool.{cases_Bool, cond_both, and_parts, eqb-true, le-leb, false≢true, false_from_ne_true}
 use Rattle.std.proofs.lemmas.List.Sums.{length-filter}
@@ -19,16 +19,16 @@ use Rattle.query_core.specs.Standard.{is_standard}
 use Rattle.query_core.specs.Answers.{are_output, gives, is_answer}
 use Rattle.query_laws.proofs.MemberLaws.{in_back}
 use Rattle.query_laws.proofs.AscendingLists.{of_all, all_of}
-use Rattle.query_laws.proofs.QueryLaws.{opened, opened_fillings, in_queries_of}
+use Rattle.query_laws.proofs.QueryLaws.{opened_fillings, in_queries_of}
 use Rattle.query_laws.proofs.StandardFillingLaws.{columns_opened}
-use Rattle.over_eval.specs.Over.{AbsRow, cells_at, over}
+use Rattle.over_eval.specs.Over.{AbsRow, cells_at}
 use Rattle.over_eval.specs.Live.{covers_row, covering, can_serve, serves_by, live}
 use Rattle.over_eval.specs.Placed.{Placed}
 use Rattle.over_eval.specs.Laws.{IsCovered, AreCovered, OnlyLiveAnswer, AnswersOfLive}
 use Rattle.over_eval.proofs.PlacedLaws.{part_places, placed_from, placed_filter, placed_length}
 use Rattle.over_eval.proofs.StepLaws.{covered_picks, firsts_placed}
 use Rattle.over_eval.proofs.AggregateLaws.{any_by}
-use Rattle.over_eval.proofs.CoverLaws.{CoveredBy, filling_covered}
+use Rattle.over_eval.proofs.CoverLaws.{filling_covered}
 
 -- a row is covered by these columns of an abstract row
 abbrev CoveredAt : List ℕ → Row → AbsRow → Type 0

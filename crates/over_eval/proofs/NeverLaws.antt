@@ -1,5 +1,5 @@
 -- A tree never has rows exactly where a part of it has no hole and no rows.
-use Rattle.std.proofs.Common.{◌≡◌, refl, sym, ap, ◌∙◌, ℕ, Bool, true, false, ◌||◌, ◌⊎◌, inl, inr, List, ◌∷◌, ◌++◌, map, length, Option, Some, None, option_map, if◌then◌else◌}
+use Rattle.std.proofs.Common.{◌≡◌, refl, sym, ap, ◌∙◌, ℕ, false, ◌||◌, ◌⊎◌, inl, inr, List, ◌++◌, map, length, Option, Some, None, option_map}
 use Rattle.std.proofs.lemmas.Bool.{cases_Bool, or_parts, false≢true}
 use Rattle.std.proofs.lemmas.Option.{none-some}
 use Rattle.table_core.specs.Rows.{Row}
@@ -103,10 +103,13 @@ module _ (task : TaskParts) where
         ])
         | inr none ↦
             let h = or_parts (has_hole a) (has_hole b) none in
-            past_never (t.unite kind a b) (none, elim e [
-              | inl left ↦ left_none (united kind) (rows_of a) (rows_of b) (never_rows a h.0 left)
-              | inr right ↦ right_none (united kind) (rows_of a) (rows_of b) (never_rows b h.1 right)
-            ])
+            past_never (t.unite kind a b) (
+              none,
+              elim e [
+                | inl left ↦ left_none (united kind) (rows_of a) (rows_of b) (never_rows a h.0 left)
+                | inr right ↦ right_none (united kind) (rows_of a) (rows_of b) (never_rows b h.1 right)
+              ],
+            )
       ]
 
   has_past_never : (tree : Tree) → HasPast task tree → over task tree ≡ None

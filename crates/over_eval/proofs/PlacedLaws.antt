@@ -121,11 +121,16 @@ in_whole z (x ∷ xs) ys h (inr i) = rest_in z h.2 (in_whole z xs h.1 h.4 i)
 pub once_part : {X : Type 0} (xs ys : List X) → Once xs → ((x : X) → In x xs → In x ys) → PartOf xs ys
 once_part [] ys once each = tt
 once_part (x ∷ xs) ys once each =
-    let h = in_takes x ys (each x (inl refl)) in
-    (x, h.0, h.1, refl, once_part xs h.0 once.1 (λ z i. elim (in_rest z h.1 (each z (inr i))) [
-      | inl e ↦ absurd (once.0 (in_same x z xs (sym e) i))
-      | inr j ↦ j
-    ]))
+    let h = in_takes x ys (each x (inl refl)) in (
+      x,
+      h.0,
+      h.1,
+      refl,
+      once_part xs h.0 once.1 (λ z i. elim (in_rest z h.1 (each z (inr i))) [
+        | inl e ↦ absurd (once.0 (in_same x z xs (sym e) i))
+        | inr j ↦ j
+      ]),
+    )
 
 -- Joined lists.
 

@@ -1,5 +1,5 @@
 -- The steps of a tree keep rows covered: filters, pairs, unions.
-use Rattle.std.proofs.Common.{◌≡◌, refl, sym, subst, ap, ◌∙◌, ℕ, zero, suc, Bool, true, false, not, List, [], ◌∷◌, ◌++◌, map, replicate}
+use Rattle.std.proofs.Common.{◌≡◌, refl, subst, ℕ, zero, suc, Bool, true, not, List, [], ◌∷◌, ◌++◌, map, replicate}
 use Rattle.std.specs.Prelude.{filter, flat_map}
 use Rattle.std.proofs.lemmas.Bool.{and_parts, and_from, false≢true}
 use Rattle.value_core.proofs.ValueLaws.{same_decides}
@@ -11,13 +11,12 @@ use Rattle.predicate_core.specs.declared.pred.Pred.{Pred}
 use Rattle.table_core.specs.Rows.{Row}
 use Rattle.table_core.specs.Bag.{same_cells}
 use Rattle.query_core.specs.Firsts.{projected, firsts, united}
-use Rattle.query_core.specs.Joins.{pairs_with, kept_pairs, or_padded, joined, left_joined, paired}
+use Rattle.query_core.specs.Joins.{pairs_with, kept_pairs, or_padded, left_joined, paired}
 use Rattle.query_core.specs.declared.kinds.Pairing.{Pairing}
 use Rattle.query_core.specs.declared.kinds.Pairing.TheVariants.{Join, Left}
 use Rattle.query_core.specs.declared.kinds.Uniting.{Uniting}
 use Rattle.query_core.specs.declared.kinds.Uniting.TheVariants.{All, Firsts}
 use Rattle.over_cells.specs.Cells.{covers}
-use Rattle.over_cells.specs.declared.cell.AbsCell.{AbsCell}
 use Rattle.over_cells.specs.declared.cell.AbsCell.TheVariants.{Known}
 use Rattle.over_eval.specs.Over.{AbsRow, exact_row, cell_at, cells_at, pairs_over, padded_over, over_pair}
 use Rattle.over_eval.specs.Live.{covers_row}

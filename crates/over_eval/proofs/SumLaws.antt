@@ -1,5 +1,5 @@
 -- The sum of a part of some values lies between that of the negative ones and that of the positive ones.
-use Rattle.std.proofs.Common.{◌≡◌, refl, sym, ap, ◌∙◌, ℤ, pos, ◌+ℤ◌, ◌≤ℤ◌, int_le, Bool, true, false, not, ◌&&◌, List, [], ◌∷◌, arith}
+use Rattle.std.proofs.Common.{◌≡◌, refl, ap, ◌∙◌, ℤ, pos, ◌+ℤ◌, ◌≤ℤ◌, int_le, Bool, true, not, List, [], ◌∷◌, arith}
 use Rattle.std.specs.Prelude.{filter}
 use Rattle.std.proofs.lemmas.Bool.{and_from}
 use Rattle.std.proofs.lemmas.Int.{ints}
@@ -74,9 +74,9 @@ sum_between (v ∷ vs) ws h =
     let w = number_of h.0 in
     let same : number_of v ≡ w = ap number_of h.3 in (
       at_most (negatives ws) (below_0 w +ℤ negatives h.1) (number_of v +ℤ exact_sum vs) (taken_negatives h.2)
-      (lower_more (below_0 w) (number_of v) (negatives h.1) (exact_sum vs) (at_least (number_of v) w (below_0 w) same (below_least w).0) rest.0),
+          (lower_more (below_0 w) (number_of v) (negatives h.1) (exact_sum vs) (at_least (number_of v) w (below_0 w) same (below_least w).0) rest.0),
       at_least (positives ws) (above_0 w +ℤ positives h.1) (number_of v +ℤ exact_sum vs) (taken_positives h.2)
-      (lower_more (number_of v) (above_0 w) (exact_sum vs) (positives h.1) (at_most (number_of v) w (above_0 w) same (above_most w).0) rest.1),
+          (lower_more (number_of v) (above_0 w) (exact_sum vs) (positives h.1) (at_most (number_of v) w (above_0 w) same (above_most w).0) rest.1),
     )
 
 -- a sum of 64 bits lies within the bounds, cut to 64 bits

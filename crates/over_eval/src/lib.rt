@@ -3,6 +3,4 @@
 
 mod laws;
 
-pub use laws::{
-    never_where_a_part_has_no_rows, rows_are_covered, what_is_not_live_has_no_answer,
-};
+pub use laws::{never_where_a_part_has_no_rows, rows_are_covered, what_is_not_live_has_no_answer};
