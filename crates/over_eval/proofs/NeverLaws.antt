@@ -12,7 +12,7 @@ use Rattle.query_core.specs.Meaning.{columns, rows, input_at, of_both, of_rows}
 use Rattle.query_core.specs.declared.agg.Agg.{Agg}
 use Rattle.query_core.specs.declared.kinds.Uniting.{Uniting}
 use Rattle.over_eval.specs.Over.{AbsRow, exact_row, has_hole, over_pair, groups_over, over_both, exact, over}
-use Rattle.over_eval.specs.Laws.{IsPast, HasPast, NeverWherePast}
+use Rattle.over_eval.specs.Laws.{IsRowless, HasRowlessPart, NeverByRowlessPart}
 
 -- what is made of no value is none, and nothing else
 unmapped : {X Y : Type 0} (f : X → Y) (o : Option X) → option_map f o ≡ None → o ≡ None
@@ -51,36 +51,36 @@ module _ (task : TaskParts) where
   whole_over (t.unite kind a b) none = rw none refl
 
   -- so they are never there exactly where its rows aren't
-  past_never : (tree : Tree) → IsPast task tree → over task tree ≡ None
-  past_never tree h = whole_over tree h.0 ∙ ap (option_map (map exact_row)) h.1
+  rowless_never : (tree : Tree) → IsRowless task tree → over task tree ≡ None
+  rowless_never tree h = whole_over tree h.0 ∙ ap (option_map (map exact_row)) h.1
 
   never_rows : (tree : Tree) → has_hole tree ≡ false → over task tree ≡ None → rows_of tree ≡ None
   never_rows tree none e = unmapped (map exact_row) (rows_of tree) (sym (whole_over tree none) ∙ e)
 
   -- a tree that never has rows has such a part
-  never_past : (tree : Tree) → over task tree ≡ None → HasPast task tree
-  never_past (t.base table) e = absurd (none-some (map exact_row (input_at task.inputs table).rows) (sym e))
-  never_past (t.filter child p) e = inr (never_past child e)
-  never_past (t.pair kind a b p) e =
+  never_rowless : (tree : Tree) → over task tree ≡ None → HasRowlessPart task tree
+  never_rowless (t.base table) e = absurd (none-some (map exact_row (input_at task.inputs table).rows) (sym e))
+  never_rowless (t.filter child p) e = inr (never_rowless child e)
+  never_rowless (t.pair kind a b p) e =
       elim (one_never (over_pair kind (length (columns task.inputs b))) (over task a) (over task b) e) [
-        | inl left ↦ inr (inl (never_past a left))
-        | inr right ↦ inr (inr (never_past b right))
+        | inl left ↦ inr (inl (never_rowless a left))
+        | inr right ↦ inr (inr (never_rowless b right))
       ]
-  never_past (t.group child keys agg) e =
+  never_rowless (t.group child keys agg) e =
       elim (cases_Bool (has_hole child)) [
         | inl some ↦
             let h : option_map (groups_over keys agg) (over task child) ≡ None = rw some at e in
-            inr (never_past child (unmapped (groups_over keys agg) (over task child) h))
+            inr (never_rowless child (unmapped (groups_over keys agg) (over task child) h))
         | inr none ↦ inl (none, never_rows (t.group child keys agg) none e)
       ]
-  never_past (t.unite kind a b) e =
+  never_rowless (t.unite kind a b) e =
       elim (cases_Bool (has_hole a || has_hole b)) [
         | inl some ↦
             let both : List AbsRow → List AbsRow → List AbsRow = λ lefts rights. lefts ++ rights in
             let h : over_both both (over task a) (over task b) ≡ None = rw some at e in
             elim (one_never both (over task a) (over task b) h) [
-              | inl left ↦ inr (inl (never_past a left))
-              | inr right ↦ inr (inr (never_past b right))
+              | inl left ↦ inr (inl (never_rowless a left))
+              | inr right ↦ inr (inr (never_rowless b right))
             ]
         | inr none ↦ inl (none, never_rows (t.unite kind a b) none e)
       ]
@@ -90,7 +90,7 @@ module _ (task : TaskParts) where
   group_never child keys agg e =
       elim (cases_Bool (has_hole child)) [
         | inl some ↦ rw some (ap (option_map (groups_over keys agg)) e)
-        | inr none ↦ past_never (t.group child keys agg) (none, ap (of_rows (grouped keys agg)) (never_rows child none e))
+        | inr none ↦ rowless_never (t.group child keys agg) (none, ap (of_rows (grouped keys agg)) (never_rows child none e))
       ]
 
   unite_never : (kind : Uniting) (a b : Tree) → (over task a ≡ None) ⊎ (over task b ≡ None) → over task (t.unite kind a b) ≡ None
@@ -103,7 +103,7 @@ module _ (task : TaskParts) where
         ])
         | inr none ↦
             let h = or_parts (has_hole a) (has_hole b) none in
-            past_never (t.unite kind a b) (
+            rowless_never (t.unite kind a b) (
               none,
               elim e [
                 | inl left ↦ left_none (united kind) (rows_of a) (rows_of b) (never_rows a h.0 left)
@@ -112,19 +112,19 @@ module _ (task : TaskParts) where
             )
       ]
 
-  has_past_never : (tree : Tree) → HasPast task tree → over task tree ≡ None
-  has_past_never (t.base table) h = past_never (t.base table) h
-  has_past_never (t.filter child p) (inl h) = past_never (t.filter child p) h
-  has_past_never (t.filter child p) (inr h) = has_past_never child h
-  has_past_never (t.pair kind a b p) (inl h) = past_never (t.pair kind a b p) h
-  has_past_never (t.pair kind a b p) (inr (inl h)) = left_never (over_pair kind (length (columns task.inputs b))) (over task a) (over task b) (has_past_never a h)
-  has_past_never (t.pair kind a b p) (inr (inr h)) = right_never (over_pair kind (length (columns task.inputs b))) (over task a) (over task b) (has_past_never b h)
-  has_past_never (t.group child keys agg) (inl h) = past_never (t.group child keys agg) h
-  has_past_never (t.group child keys agg) (inr h) = group_never child keys agg (has_past_never child h)
-  has_past_never (t.unite kind a b) (inl h) = past_never (t.unite kind a b) h
-  has_past_never (t.unite kind a b) (inr (inl h)) = unite_never kind a b (inl (has_past_never a h))
-  has_past_never (t.unite kind a b) (inr (inr h)) = unite_never kind a b (inr (has_past_never b h))
+  rowless_part_never : (tree : Tree) → HasRowlessPart task tree → over task tree ≡ None
+  rowless_part_never (t.base table) h = rowless_never (t.base table) h
+  rowless_part_never (t.filter child p) (inl h) = rowless_never (t.filter child p) h
+  rowless_part_never (t.filter child p) (inr h) = rowless_part_never child h
+  rowless_part_never (t.pair kind a b p) (inl h) = rowless_never (t.pair kind a b p) h
+  rowless_part_never (t.pair kind a b p) (inr (inl h)) = left_never (over_pair kind (length (columns task.inputs b))) (over task a) (over task b) (rowless_part_never a h)
+  rowless_part_never (t.pair kind a b p) (inr (inr h)) = right_never (over_pair kind (length (columns task.inputs b))) (over task a) (over task b) (rowless_part_never b h)
+  rowless_part_never (t.group child keys agg) (inl h) = rowless_never (t.group child keys agg) h
+  rowless_part_never (t.group child keys agg) (inr h) = group_never child keys agg (rowless_part_never child h)
+  rowless_part_never (t.unite kind a b) (inl h) = rowless_never (t.unite kind a b) h
+  rowless_part_never (t.unite kind a b) (inr (inl h)) = unite_never kind a b (inl (rowless_part_never a h))
+  rowless_part_never (t.unite kind a b) (inr (inr h)) = unite_never kind a b (inr (rowless_part_never b h))
 
   -- the law
-  pub never_where_past : NeverWherePast task
-  never_where_past tree = (never_past tree, has_past_never tree)
+  pub never_by_rowless_part : NeverByRowlessPart task
+  never_by_rowless_part tree = (never_rowless tree, rowless_part_never tree)

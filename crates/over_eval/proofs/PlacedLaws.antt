@@ -22,6 +22,7 @@ takes_front : {X : Type 0} (more : List X) {x : X} {xs rest : List X} → Takes 
 takes_front more here = here
 takes_front more (later t) = later (takes_front more t)
 
+-- what stands between two lists is taken out
 pub takes_middle : {X : Type 0} (x : X) (xs ys : List X) → Takes x (xs ++ x ∷ ys) (xs ++ ys)
 takes_middle x [] ys = here
 takes_middle x (z ∷ xs) ys = later (takes_middle x xs ys)
@@ -44,6 +45,7 @@ in_rest z here i = i
 in_rest z (later t) (inl e) = inr (inl e)
 in_rest z (later t) (inr i) = elim (in_rest z t i) [ inl e ↦ inl e | inr j ↦ inr (inr j) ]
 
+-- what stands in a list can be taken out
 in_takes : {X : Type 0} (x : X) (xs : List X) → In x xs → (rest : List X) × Takes x xs rest
 in_takes x [] i = absurd i
 in_takes {X} x (y ∷ ys) (inl e) = (ys, subst (λ (z : X). Takes z (y ∷ ys) ys) (sym e) here)
@@ -69,6 +71,7 @@ takes_all p (later {y = w} {xs = ws} {rest = others} t) all =
 
 -- Placed elements, and their composition.
 
+-- one element taken out of a list that is placed: its own element of the other list, and the rest placed in what is left there
 pub through_one : {Y Z : Type 0} (S : Y → Z → Type 0) {y : Y} {ys rest : List Y} → Takes y ys rest → (zs : List Z) → Placed S ys zs
     → (z : Z) × (more : List Z) × Takes z zs more × S y z × Placed S rest more
 through_one S here zs h = h
@@ -77,6 +80,7 @@ through_one S (later t) zs h =
     let swap = takes_swap h.2 one.2 in
     (one.0, swap.0, swap.1, one.3, (h.0, one.1, swap.2, h.3, one.4))
 
+-- what is placed in a list that is placed in a third is placed there
 pub placed_through : {X Y Z : Type 0} (R : X → Y → Type 0) (S : Y → Z → Type 0) (T : X → Z → Type 0) → ((x : X) (y : Y) (z : Z) → R x y → S y z → T x z)
     → (xs : List X) (ys : List Y) (zs : List Z) → Placed R xs ys → Placed S ys zs → Placed T xs zs
 placed_through R S T both [] ys zs h k = tt
@@ -88,6 +92,7 @@ pub placed_weaker : {X Y : Type 0} (R S : X → Y → Type 0) → ((x : X) (y : 
 placed_weaker R S each [] ys h = tt
 placed_weaker R S each (x ∷ xs) ys h = (h.0, h.1, h.2, each x h.0 h.3, placed_weaker R S each xs h.1 h.4)
 
+-- what is placed in the rest is placed in the whole
 placed_more : {X Y : Type 0} (R : X → Y → Type 0) (xs : List X) {y : Y} {ys rest : List Y} → Takes y ys rest → Placed R xs rest → Placed R xs ys
 placed_more R [] t h = tt
 placed_more R (x ∷ xs) t h = let swap = takes_swap t h.2 in (h.0, swap.0, swap.1, h.3, placed_more R xs swap.2 h.4)
@@ -118,6 +123,7 @@ in_whole z [] ys h i = absurd i
 in_whole z (x ∷ xs) ys h (inl e) = in_same z h.0 ys (e ∙ h.3) (takes_in h.2)
 in_whole z (x ∷ xs) ys h (inr i) = rest_in z h.2 (in_whole z xs h.1 h.4 i)
 
+-- elements that each stand once are a part of a list in which they all stand
 pub once_part : {X : Type 0} (xs ys : List X) → Once xs → ((x : X) → In x xs → In x ys) → PartOf xs ys
 once_part [] ys once each = tt
 once_part (x ∷ xs) ys once each =
@@ -146,10 +152,12 @@ pub placed_append : {X Y : Type 0} (R : X → Y → Type 0) (xs us : List X) (ys
 placed_append R [] us ys vs h k = placed_back R us ys vs k
 placed_append R (x ∷ xs) us ys vs h k = (h.0, h.1 ++ vs, takes_front vs h.2, h.3, placed_append R xs us h.1 vs h.4 k)
 
+-- of three lists joined, the first two may stand in either order
 part_swap : {X : Type 0} (xs ys zs : List X) → PartOf (xs ++ (ys ++ zs)) (ys ++ (xs ++ zs))
 part_swap [] ys zs = part_whole (ys ++ zs)
 part_swap (x ∷ xs) ys zs = (x, ys ++ (xs ++ zs), takes_middle x ys (xs ++ zs), refl, part_swap xs ys zs)
 
+-- of four lists joined, the middle two may
 part_middle : {X : Type 0} (ts us vs ws : List X) → PartOf ((ts ++ us) ++ (vs ++ ws)) ((ts ++ vs) ++ (us ++ ws))
 part_middle [] us vs ws = part_swap us vs ws
 part_middle (t ∷ ts) us vs ws = (t, (ts ++ vs) ++ (us ++ ws), here, refl, part_middle ts us vs ws)
@@ -200,6 +208,7 @@ part_last {Y} {V} g last (y ∷ ys) =
 
 -- Filtered lists.
 
+-- what is kept is placed in what is kept, where the element of each kept one is kept
 pub placed_filter : {X Y : Type 0} (R : X → Y → Type 0) (p : X → Bool) (q : Y → Bool) → ((x : X) (y : Y) → R x y → p x ≡ true → q y ≡ true)
     → (xs : List X) (ys : List Y) → Placed R xs ys → Placed R (filter p xs) (filter q ys)
 placed_filter R p q each [] ys h = tt
@@ -213,6 +222,7 @@ placed_filter R p q each (x ∷ xs) ys h =
       ])
     ]
 
+-- what holds of all elements of the second list holds of those in which the first is placed
 pub placed_all : {X Y : Type 0} (R : X → Y → Type 0) (q : Y → Bool) (xs : List X) (ys : List Y) → list_all q ys ≡ true → Placed R xs ys → Placed (λ x y. R x y × (q y ≡ true)) xs ys
 placed_all R q [] ys all h = tt
 placed_all R q (x ∷ xs) ys all h = let one = takes_all q h.2 all in (h.0, h.1, h.2, (h.3, one.0), placed_all R q xs h.1 one.1 h.4)

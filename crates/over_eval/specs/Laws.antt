@@ -40,17 +40,17 @@ abbrev pub AnswersOfLive : TaskParts → Type 0
 AnswersOfLive task = found task ≡ list_filter (is_answer task) (flat_map (numbered task) (live_skeletons task))
 
 -- a tree has no hole, and no rows
-abbrev pub IsPast : TaskParts → Tree → Type 0
-IsPast task tree = (has_hole tree ≡ false) × (rows task.inputs task.constants tree ≡ None)
+abbrev pub IsRowless : TaskParts → Tree → Type 0
+IsRowless task tree = (has_hole tree ≡ false) × (rows task.inputs task.constants tree ≡ None)
 
--- a tree, or a part of it, has no hole and no rows
-abbrev pub HasPast : TaskParts → Tree → Type 0
-HasPast task (t.base table) = IsPast task (t.base table)
-HasPast task (t.filter child p) = IsPast task (t.filter child p) ⊎ HasPast task child
-HasPast task (t.pair kind a b p) = IsPast task (t.pair kind a b p) ⊎ (HasPast task a ⊎ HasPast task b)
-HasPast task (t.group child keys agg) = IsPast task (t.group child keys agg) ⊎ HasPast task child
-HasPast task (t.unite kind a b) = IsPast task (t.unite kind a b) ⊎ (HasPast task a ⊎ HasPast task b)
+-- a tree, or some part of it, has no hole and no rows
+abbrev pub HasRowlessPart : TaskParts → Tree → Type 0
+HasRowlessPart task (t.base table) = IsRowless task (t.base table)
+HasRowlessPart task (t.filter child p) = IsRowless task (t.filter child p) ⊎ HasRowlessPart task child
+HasRowlessPart task (t.pair kind a b p) = IsRowless task (t.pair kind a b p) ⊎ (HasRowlessPart task a ⊎ HasRowlessPart task b)
+HasRowlessPart task (t.group child keys agg) = IsRowless task (t.group child keys agg) ⊎ HasRowlessPart task child
+HasRowlessPart task (t.unite kind a b) = IsRowless task (t.unite kind a b) ⊎ (HasRowlessPart task a ⊎ HasRowlessPart task b)
 
--- a tree never has rows exactly where a part of it has no hole and no rows
-abbrev pub NeverWherePast : TaskParts → Type 0
-NeverWherePast task = (tree : Tree) → (over task tree ≡ None) ↔ HasPast task tree
+-- a tree never has rows exactly where it, or some part of it, has no hole and no rows
+abbrev pub NeverByRowlessPart : TaskParts → Type 0
+NeverByRowlessPart task = (tree : Tree) → (over task tree ≡ None) ↔ HasRowlessPart task tree

@@ -1,4 +1,4 @@
-ghost use Rattle.over_eval.specs.Laws.{RowsAreCovered, OnlyLiveAnswer, AnswersOfLive, NeverWherePast};
+ghost use Rattle.over_eval.specs.Laws.{RowsAreCovered, OnlyLiveAnswer, AnswersOfLive, NeverByRowlessPart};
 
 use table_core::TaskParts;
 
@@ -15,5 +15,5 @@ pub fn what_is_not_live_has_no_answer(task: &TaskParts)
 
 /// The law of what never has rows: exactly a tree in which a part without a hole has none.
 pub fn never_where_a_part_has_no_rows(task: &TaskParts)
-    ensures { NeverWherePast task.now }
+    ensures { NeverByRowlessPart task.now }
 {}
