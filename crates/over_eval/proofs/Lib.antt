@@ -1,2 +1,10 @@
+pub mod AggregateLaws
 pub mod AllLaws
+pub mod CoverLaws
+pub mod GroupLaws
+pub mod LiveLaws
+pub mod NeverLaws
+pub mod PlacedLaws
 pub mod RowLaws
+pub mod StepLaws
+pub mod SumLaws

@@ -1,2 +1,4 @@
+pub mod Laws
 pub mod Live
 pub mod Over
+pub mod Placed

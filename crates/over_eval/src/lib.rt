@@ -2,6 +2,7 @@
 #![tactic(auto)]
 
 mod groups;
+mod laws;
 mod members;
 mod pairs;
 mod part_over;
@@ -10,10 +11,9 @@ mod rows;
 mod serve;
 mod tree_over;
 
-pub use groups::{any_group, group_over, groups_over};
-pub use members::{cell_of, members_over};
-pub use pairs::over_pair;
+pub use laws::{
+    never_where_a_part_has_no_rows, rows_are_covered, what_is_not_live_has_no_answer,
+};
 pub use row::AbsRow;
-pub use rows::{cell_at, cells_at, exact_row, exact_rows, knows, plain, plain_rows};
-pub use serve::{can_serve, can_serve_by, covering, covers_row};
-pub use tree_over::{has_hole, over};
+pub use serve::can_serve_by;
+pub use tree_over::over;
