@@ -34,7 +34,7 @@ child_falls nodes k child falls (inr e) = falls.rights k child e
 -- the node that tells of a child
 told_by : (side : SkelNode → Option ℕ) (nodes : List SkelNode) (k child : ℕ) → option_and_then side (slice_get nodes k) ≡ Some child
     → (node : SkelNode) × (slice_get nodes k ≡ Some node) × (side node ≡ Some child)
-told_by side nodes k child is = option_and_then_some side (slice_get nodes k) child is (λ node at told. (node, at, told))
+told_by side nodes k child is = option_and_then_some side (slice_get nodes k) child is (λ node found told. (node, found, told))
 
 user_of : (nodes : List SkelNode) (k child : ℕ) → IsChild nodes k child
     → (node : SkelNode) × (slice_get nodes k ≡ Some node) × ((node.left ≡ Some child) ⊎ (node.right ≡ Some child))
@@ -47,11 +47,11 @@ user_within nodes k child is = let h = user_of nodes k child is in slice_get_wit
 -- what a node tells of, by its number
 told_of : (side : SkelNode → Option ℕ) (nodes : List SkelNode) (k child : ℕ) (node : SkelNode) → slice_get nodes k ≡ Some node → side node ≡ Some child
     → option_and_then side (slice_get nodes k) ≡ Some child
-told_of side nodes k child node at told = ap (option_and_then side) at ∙ told
+told_of side nodes k child node found told = ap (option_and_then side) found ∙ told
 
 side_below : (side : SkelNode → Option ℕ) (nodes : List SkelNode) (k : ℕ) (node : SkelNode) → Descends (λ n. option_and_then side (slice_get nodes n)) → slice_get nodes k ≡ Some node
     → Below k (side node)
-side_below side nodes k node down at = rw (ap (option_and_then side) at) at (below_is (λ n. option_and_then side (slice_get nodes n)) down k)
+side_below side nodes k node down found = rw (ap (option_and_then side) found) at (below_is (λ n. option_and_then side (slice_get nodes n)) down k)
 
 -- a list has an element that passes a test exactly where the test finds one
 any_in : {X : Type 0} (p : X → Bool) (xs : List X) → list_any p xs ≡ true → (x : X) × In x xs × (p x ≡ true)
@@ -146,16 +146,16 @@ up nodes k j = get_or (marks_after k [] nodes) j false
 
 up_made : (nodes : List SkelNode) (k j : ℕ) (node : SkelNode) → Falls nodes → slice_get nodes j ≡ Some node
     → up nodes k j ≡ (j == k || (is_marked (marks_after k [] nodes) node.left || is_marked (marks_after k [] nodes) node.right))
-up_made nodes k j node falls at =
+up_made nodes k j node falls found =
     let place : 0 + j ≡ j = omega arith in
     let all = marks_after k [] nodes in
     let LeftBelow : ℕ → Type 0 = λ p. Below p node.left in
     let RightBelow : ℕ → Type 0 = λ p. Below p node.right in
     let Made : ℕ → Type 0 = λ p. get_or all p false ≡ (p == k || (is_marked all node.left || is_marked all node.right)) in
     subst Made place (
-      mark_made k [] nodes j node at
-      (subst LeftBelow (sym place) (side_below (λ n. n.left) nodes j node falls.lefts at))
-      (subst RightBelow (sym place) (side_below (λ n. n.right) nodes j node falls.rights at))
+      mark_made k [] nodes j node found
+      (subst LeftBelow (sym place) (side_below (λ n. n.left) nodes j node falls.lefts found))
+      (subst RightBelow (sym place) (side_below (λ n. n.right) nodes j node falls.rights found))
     )
 
 -- a child's mark is set exactly where there is the child and its number's mark is set
@@ -189,13 +189,13 @@ over nodes k j child falls told is =
 -- they reach another node only from a child of it
 under_at : (nodes : List SkelNode) (k j : ℕ) (node : SkelNode) → Falls nodes → slice_get nodes j ≡ Some node → up nodes k j ≡ true
     → (j ≡ k) ⊎ ((child : ℕ) × IsChild nodes j child × (up nodes k child ≡ true))
-under_at nodes k j node falls at is =
+under_at nodes k j node falls found is =
     let all = marks_after k [] nodes in
-    elim (or_cases (j == k) (is_marked all node.left || is_marked all node.right) (sym (up_made nodes k j node falls at) ∙ is)) [
+    elim (or_cases (j == k) (is_marked all node.left || is_marked all node.right) (sym (up_made nodes k j node falls found) ∙ is)) [
       | inl e ↦ inl (eqb-true j k e)
       | inr e ↦ inr (elim (or_cases (is_marked all node.left) (is_marked all node.right) e) [
-          | inl l ↦ let h = marked_child all node.left l in (h.0, inl (told_of (λ n. n.left) nodes j h.0 node at h.1), h.2)
-          | inr r ↦ let h = marked_child all node.right r in (h.0, inr (told_of (λ n. n.right) nodes j h.0 node at h.1), h.2)
+          | inl l ↦ let h = marked_child all node.left l in (h.0, inl (told_of (λ n. n.left) nodes j h.0 node found h.1), h.2)
+          | inr r ↦ let h = marked_child all node.right r in (h.0, inr (told_of (λ n. n.right) nodes j h.0 node found h.1), h.2)
         ])
     ]
 
@@ -354,9 +354,9 @@ children_set nodes marks k child (inr e) below =
 -- the children of a node of a number, by the node
 pub children_are : (nodes : List SkelNode) (marks middle after : List Bool) (k : ℕ) (node : SkelNode) → slice_get nodes k ≡ Some node → middle ≡ with_mark marks node.left → after ≡ with_mark middle node.right
     → after ≡ with_children nodes marks k
-children_are nodes marks middle after k node at first second =
+children_are nodes marks middle after k node found first second =
     let Made : Option SkelNode → Type 0 = λ o. after ≡ with_mark (with_mark marks (option_and_then (λ n. n.left) o)) (option_and_then (λ n. n.right) o) in
-    subst Made (sym at) (second ∙ ap (λ m. with_mark m node.right) first)
+    subst Made (sym found) (second ∙ ap (λ m. with_mark m node.right) first)
 
 under_keeps : (nodes : List SkelNode) (marks : List Bool) (numbers : List ℕ) (j : ℕ) → get_or marks j false ≡ true → get_or (marked_under nodes marks numbers) j false ≡ true
 under_keeps nodes marks [] j is = is

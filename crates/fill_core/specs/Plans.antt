@@ -40,10 +40,10 @@ plan_of task graph roots = record { task = task; graph = graph; roots = roots; j
 -- what holds of every plan: the graph is the task's, its roots ascend and are nodes, and its jobs are those of the roots
 pub record IsPlan (task : TaskParts) (graph : GraphData) (roots : List ℕ) (jobs : List Job) : Type 0 where
   pub trees : trees_of graph.nodes ≡ skeletons task
-  pub graph : IsGraph graph.nodes graph.types
+  pub ordered : IsGraph graph.nodes graph.types
   pub ascend : IsStrictlyIncreasing roots
   pub within : All (λ k. k < length graph.nodes) roots
-  pub jobs : jobs ≡ jobs_of graph.nodes roots
+  pub listed : jobs ≡ jobs_of graph.nodes roots
   pub few : length jobs ≤ 200000
 
 -- whether a node has another as its child
