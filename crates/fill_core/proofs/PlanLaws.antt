@@ -110,7 +110,7 @@ child_earlier k marks nodes (Some c) below = unwrap_or-slice_get (marks_after k 
 -- the mark of a node, by its children's
 mark_made : (k : ℕ) (marks : List Bool) (nodes : List SkelNode) (i : ℕ) (node : SkelNode) → slice_get nodes i ≡ Some node → Below (length marks + i) node.left → Below (length marks + i) node.right
     → get_or (marks_after k marks nodes) (length marks + i) false
-      ≡ (length marks + i == k || (is_marked (marks_after k marks nodes) node.left || is_marked (marks_after k marks nodes) node.right))
+    ≡ (length marks + i == k || (is_marked (marks_after k marks nodes) node.left || is_marked (marks_after k marks nodes) node.right))
 mark_made k marks [] i node is a b = let same : ◌≡◌ {A = Option SkelNode} None (Some node) = is in cc
 mark_made k marks (n ∷ nodes) zero node is a b =
     let same : ◌≡◌ {A = Option SkelNode} (Some n) (Some node) = is in
@@ -125,10 +125,10 @@ mark_made k marks (n ∷ nodes) zero node is a b =
     let rights = child_earlier k marks (n ∷ nodes) node.right (subst RightBelow here b) in
     let Made : ℕ → Type 0 = λ p. get_or all p false ≡ (p == k || (is_marked all node.left || is_marked all node.right)) in
     subst Made (sym here) (
-      earlier k (marks ++ mark n ∷ []) nodes (length marks) (omega (arith, one))
-      ∙ get_or_at marks (mark n) [] false (length marks) refl
-      ∙ ap mark e
-      ∙ sym (ap₂ (λ p q. length marks == k || (p || q)) lefts rights)
+    earlier k (marks ++ mark n ∷ []) nodes (length marks) (omega (arith, one))
+    ∙ get_or_at marks (mark n) [] false (length marks) refl
+    ∙ ap mark e
+    ∙ sym (ap₂ (λ p q. length marks == k || (p || q)) lefts rights)
     )
 mark_made k marks (n ∷ nodes) (suc i) node is a b =
     let mark : Bool = length marks == k || (is_marked marks n.left || is_marked marks n.right) in
@@ -153,9 +153,9 @@ up_made nodes k j node falls found =
     let RightBelow : ℕ → Type 0 = λ p. Below p node.right in
     let Made : ℕ → Type 0 = λ p. get_or all p false ≡ (p == k || (is_marked all node.left || is_marked all node.right)) in
     subst Made place (
-      mark_made k [] nodes j node found
-      (subst LeftBelow (sym place) (side_below (λ n. n.left) nodes j node falls.lefts found))
-      (subst RightBelow (sym place) (side_below (λ n. n.right) nodes j node falls.rights found))
+    mark_made k [] nodes j node found
+    (subst LeftBelow (sym place) (side_below (λ n. n.left) nodes j node falls.lefts found))
+    (subst RightBelow (sym place) (side_below (λ n. n.right) nodes j node falls.rights found))
     )
 
 -- a child's mark is set exactly where there is the child and its number's mark is set
@@ -194,9 +194,9 @@ under_at nodes k j node falls found is =
     elim (or_cases (j == k) (is_marked all node.left || is_marked all node.right) (sym (up_made nodes k j node falls found) ∙ is)) [
       | inl e ↦ inl (eqb-true j k e)
       | inr e ↦ inr (elim (or_cases (is_marked all node.left) (is_marked all node.right) e) [
-          | inl l ↦ let h = marked_child all node.left l in (h.0, inl (told_of (λ n. n.left) nodes j h.0 node found h.1), h.2)
-          | inr r ↦ let h = marked_child all node.right r in (h.0, inr (told_of (λ n. n.right) nodes j h.0 node found h.1), h.2)
-        ])
+        | inl l ↦ let h = marked_child all node.left l in (h.0, inl (told_of (λ n. n.left) nodes j h.0 node found h.1), h.2)
+        | inr r ↦ let h = marked_child all node.right r in (h.0, inr (told_of (λ n. n.right) nodes j h.0 node found h.1), h.2)
+      ])
     ]
 
 under : (nodes : List SkelNode) (k j : ℕ) → Falls nodes → up nodes k j ≡ true → (j ≡ k) ⊎ ((child : ℕ) × IsChild nodes j child × (up nodes k child ≡ true))
@@ -212,9 +212,9 @@ up_least (suc fuel) nodes k j falls low is =
     elim (under nodes k j falls is) [
       | inl e ↦ omega (arith, e)
       | inr h ↦
-        let less = child_falls nodes j h.0 falls h.1 in
-        let rest = up_least fuel nodes k h.0 falls (omega (arith, low, less)) h.2 in
-        omega (arith, less, rest)
+          let less = child_falls nodes j h.0 falls h.1 in
+          let rest = up_least fuel nodes k h.0 falls (omega (arith, low, less)) h.2 in
+          omega (arith, less, rest)
     ]
 
 -- what is reached from a node that is reached is reached
@@ -235,8 +235,8 @@ past_marked b number k r i = of (b && not (number == k)) refl i
     of true is (inl e) =
         let parts = and_parts b (not (number == k)) is in
         (e, parts.0, λ same. false≢true (sym (ap not (eq-eqb number k same)) ∙ parts.1))
-    of true is (inr no) = absurd no
-    of false is no = absurd no
+    of true is (inr gone) = absurd gone
+    of false is gone = absurd gone
 
 marked_in : (k number : ℕ) (marks : List Bool) (r : ℕ) → In r (marked_but k number marks) → (i : ℕ) × (r ≡ number + i) × (get_or marks i false ≡ true) × (r ≢ k)
 marked_in k number [] r i = absurd i
@@ -437,19 +437,19 @@ down_sets nodes zero marks falls size k child low told is = absurd (let no : ⊥
 down_sets nodes (suc n) marks falls size k child low told is =
     elim (cases_eq k n) [
       | inl e ↦
-        let less = child_falls nodes k child falls told in
-        let within = user_within nodes k child told in
-        let h = down_lower nodes n (marked_by nodes marks n) k falls (omega (arith, e)) is in
-        let was : get_or marks k false ≡ true = elim (by_was nodes marks n k (get_or marks n false) h) [
-          | inl w ↦ let lower = child_falls nodes n k falls w.0 in absurd (let no : ⊥ = omega (arith, e, lower) in no)
-          | inr was ↦ was
-        ] in
-        let Told : ℕ → Type 0 = λ x. IsChild nodes x child in
-        down_keeps nodes n (marked_by nodes marks n) child
-        (by_sets nodes marks n child (get_or marks n false) (ap (λ x. get_or marks x false) (sym e) ∙ was) (subst Told e told) (omega (arith, less, within, size)))
+          let less = child_falls nodes k child falls told in
+          let within = user_within nodes k child told in
+          let h = down_lower nodes n (marked_by nodes marks n) k falls (omega (arith, e)) is in
+          let was : get_or marks k false ≡ true = elim (by_was nodes marks n k (get_or marks n false) h) [
+            | inl w ↦ let lower = child_falls nodes n k falls w.0 in absurd (let no : ⊥ = omega (arith, e, lower) in no)
+            | inr was ↦ was
+          ] in
+          let Told : ℕ → Type 0 = λ x. IsChild nodes x child in
+          down_keeps nodes n (marked_by nodes marks n) child
+          (by_sets nodes marks n child (get_or marks n false) (ap (λ x. get_or marks x false) (sym e) ∙ was) (subst Told e told) (omega (arith, less, within, size)))
       | inr apart ↦
-        let same : length (marked_by nodes marks n) ≡ length marks = by_size nodes marks n (get_or marks n false) in
-        down_sets nodes n (marked_by nodes marks n) falls (same ∙ size) k child (omega (arith, low, apart)) told is
+          let same : length (marked_by nodes marks n) ≡ length marks = by_size nodes marks n (get_or marks n false) in
+          down_sets nodes n (marked_by nodes marks n) falls (same ∙ size) k child (omega (arith, low, apart)) told is
     ]
 
 -- where the children of each marked node are marked, and those of a node, each other node from which it is reached is marked
@@ -460,11 +460,11 @@ reached (suc fuel) nodes marks k j falls closed low each is apart =
     elim (under nodes k j falls is) [
       | inl e ↦ absurd (apart e)
       | inr h ↦
-        let less = child_falls nodes j h.0 falls h.1 in
-        elim (cases_eq h.0 k) [
-          | inl e ↦ ap (λ x. get_or marks x false) (sym e) ∙ each h.0 h.1
-          | inr other ↦ reached fuel nodes marks k h.0 falls closed (omega (arith, low, less)) (λ child told. closed h.0 child told (each h.0 h.1)) h.2 other
-        ]
+          let less = child_falls nodes j h.0 falls h.1 in
+          elim (cases_eq h.0 k) [
+            | inl e ↦ ap (λ x. get_or marks x false) (sym e) ∙ each h.0 h.1
+            | inr other ↦ reached fuel nodes marks k h.0 falls closed (omega (arith, low, less)) (λ child told. closed h.0 child told (each h.0 h.1)) h.2 other
+          ]
     ]
 
 none_set : (n j : ℕ) → get_or (replicate n false) j false ≡ true → ⊥
@@ -501,9 +501,9 @@ root_marked nodes roots k falls h =
     (λ n child told is. down_sets nodes (length nodes) first falls size n child (user_within nodes n child told) told is)
     (omega arith)
     (λ child told.
-      let less = child_falls nodes h.0 child falls told in
-      let within = user_within nodes h.0 child told in
-      down_keeps nodes (length nodes) first child (under_sets nodes none roots h.0 child h.1 told (omega (arith, less, within, none_size))))
+    let less = child_falls nodes h.0 child falls told in
+    let within = user_within nodes h.0 child told in
+    down_keeps nodes (length nodes) first child (under_sets nodes none roots h.0 child h.1 told (omega (arith, less, within, none_size))))
     h.2 h.3
 
 -- a node is marked exactly where it is inner
