@@ -3,7 +3,7 @@ use Rattle.std.proofs.Common.{◌≡◌, ◌≢◌, refl, sym, ap, ap₂, ◌∙
 use Rattle.std.specs.Prelude.{All, Contains, filter, not, ◌&&◌, slice_get, option_and_then}
 use Rattle.std.specs.List.{list_any, range_with_len}
 use Rattle.std.specs.List.Sorted.{IsStrictlyIncreasing}
-use Rattle.std.proofs.lemmas.Bool.{false≢true, not_from_false, and_from, and_parts, or_cases, or_left, or_right, cases_Bool, cases_eq, eqb-true, eq-eqb, ne_eqb}
+use Rattle.std.proofs.lemmas.Bool.{false≢true, not_from_false, and_from, and_parts, or_cases, or_left, or_right, cases_eq, eqb-true, eq-eqb, ne_eqb}
 use Rattle.std.proofs.lemmas.Option.{option_and_then_some, slice_get_cases, slice_get_within, slice_get-get_or, get_or_from_slice_get, unwrap_or-slice_get}
 use Rattle.std.proofs.lemmas.List.{get_or_append_left, get_or_at, get_or_past, get_or-set_same, length-set, length-replicate, length_push, length-map}
 use Rattle.std.proofs.lemmas.List.FromFn.{length-range_with_len}

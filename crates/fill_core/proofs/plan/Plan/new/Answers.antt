@@ -1,4 +1,4 @@
-use Rattle.std.proofs.Common.{◌≡◌, ap, ◌∙◌, length, sym, arith}
+use Rattle.std.proofs.Common.{◌≡◌, ap, ◌∙◌, length, arith}
 use Rattle.fill_core.specs.Plans.{jobs_of}
 use Rattle.fill_core.proofs.PlanLaws.{jobs_few}
 use Rattle.fill_core.proofs.plan.Plan.new.Goals as goal
