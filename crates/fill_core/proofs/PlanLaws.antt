@@ -85,8 +85,6 @@ same_tests true b there back = sym (there refl)
 same_tests false true there back = back refl
 same_tests false false there back = refl
 
--- MARKS THAT GO UP
-
 -- later marks leave the earlier ones as they are
 earlier : (k : ℕ) (marks : List Bool) (nodes : List SkelNode) (i : ℕ) → i < length marks → get_or (marks_after k marks nodes) i false ≡ get_or marks i false
 earlier k marks [] i below = refl
@@ -226,8 +224,7 @@ up_on (suc fuel) nodes k middle j falls low first second =
       | inr h ↦ let less = child_falls nodes j h.0 falls h.1 in over nodes k j h.0 falls h.1 (up_on fuel nodes k middle h.0 falls (omega (arith, low, less)) first h.2)
     ]
 
--- THE NODES ABOVE A NODE
-
+-- the numbers of the marks that are set but one's own
 past_marked : (b : Bool) (number k : ℕ) (r : ℕ) → In r (if b && not (number == k) then number ∷ [] else []) → (r ≡ number) × (b ≡ true) × (number ≢ k)
 past_marked b number k r i = of (b && not (number == k)) refl i
   where
@@ -301,8 +298,7 @@ inner_child nodes roots k child falls h is =
     let first = over nodes child k child falls is (own nodes child falls (omega (arith, less, within))) in
     (h.0, h.1, up_on (suc h.0) nodes child k h.0 falls (omega arith) first h.2, λ e. omega (arith, less, least, e))
 
--- MARKS THAT GO DOWN
-
+-- setting marks keeps those that are set, and sets no others
 set_keeps : (marks : List Bool) (c k : ℕ) → get_or marks k false ≡ true → get_or (set marks c true) k false ≡ true
 set_keeps [] c k is = is
 set_keeps (m ∷ marks) zero zero is = refl
@@ -358,6 +354,7 @@ children_are nodes marks middle after k node found first second =
     let Made : Option SkelNode → Type 0 = λ o. after ≡ with_mark (with_mark marks (option_and_then (λ n. n.left) o)) (option_and_then (λ n. n.right) o) in
     subst Made (sym found) (second ∙ ap (λ m. with_mark m node.right) first)
 
+-- the marks under some nodes
 under_keeps : (nodes : List SkelNode) (marks : List Bool) (numbers : List ℕ) (j : ℕ) → get_or marks j false ≡ true → get_or (marked_under nodes marks numbers) j false ≡ true
 under_keeps nodes marks [] j is = is
 under_keeps nodes marks (k ∷ numbers) j is = under_keeps nodes (with_children nodes marks k) numbers j (children_keep nodes marks k j is)
@@ -385,6 +382,7 @@ under_sets nodes marks (n ∷ numbers) k child (inr i) is below =
     let size = children_size nodes marks n in
     under_sets nodes (with_children nodes marks n) numbers k child i is (omega (arith, size, below))
 
+-- the marks under a node, where it is marked
 by_keeps : (nodes : List SkelNode) (marks : List Bool) (k j : ℕ) (b : Bool) → get_or marks j false ≡ true → get_or (if b then with_children nodes marks k else marks) j false ≡ true
 by_keeps nodes marks k j true is = children_keep nodes marks k j is
 by_keeps nodes marks k j false is = is
@@ -403,6 +401,7 @@ by_size : (nodes : List SkelNode) (marks : List Bool) (k : ℕ) (b : Bool) → l
 by_size nodes marks k true = children_size nodes marks k
 by_size nodes marks k false = refl
 
+-- the marks on the way down
 down_keeps : (nodes : List SkelNode) (n : ℕ) (marks : List Bool) (j : ℕ) → get_or marks j false ≡ true → get_or (marked_down nodes n marks) j false ≡ true
 down_keeps nodes zero marks j is = is
 down_keeps nodes (suc n) marks j is = down_keeps nodes n (marked_by nodes marks n) j (by_keeps nodes marks n j (get_or marks n false) is)
@@ -479,8 +478,7 @@ marks_size nodes roots =
     ∙ under_size nodes (replicate (length nodes) false) roots
     ∙ length-replicate (length nodes) false
 
--- THE MARKS OF BOTH KINDS
-
+-- a node is marked exactly where a root is above it
 marked_root : (nodes : List SkelNode) (roots : List ℕ) (k : ℕ) → Falls nodes → get_or (marks_below nodes roots) k false ≡ true → HasRoot nodes roots k
 marked_root nodes roots k falls is =
     let none = replicate (length nodes) false in
@@ -513,8 +511,7 @@ marked_is_inner nodes roots k falls =
     (λ is. root_inner nodes roots k (marked_root nodes roots k falls is))
     (λ is. root_marked nodes roots k falls (inner_root nodes roots k is))
 
--- THE JOBS
-
+-- the jobs of the marked nodes, by a test that the marks agree with
 inner_next : (b : Bool) (k : ℕ) (jobs : List Job) (numbers : List ℕ) → jobs ≡ map Inner numbers → (if b then Inner k ∷ [] else []) ++ jobs ≡ map Inner (cond b (k ∷ numbers) numbers)
 inner_next true k jobs numbers is = ap (λ js. Inner k ∷ js) is
 inner_next false k jobs numbers is = is
@@ -535,6 +532,7 @@ inner_listed nodes roots falls =
     inner_jobs_are (is_inner nodes roots) 0 (marks_below nodes roots) each
     ∙ ap (λ n. map Inner (filter (is_inner nodes roots) (range_with_len 0 n))) (marks_size nodes roots)
 
+-- how many pass a test, and how far ascending numbers have come at a place
 filter_few : {X : Type 0} (p : X → Bool) (xs : List X) → length (filter p xs) ≤ length xs
 filter_few p [] = omega arith
 filter_few p (x ∷ xs) = of (p x) (filter_few p xs)
@@ -570,8 +568,6 @@ jobs_few nodes roots few ascend within =
     let range = length-range_with_len 0 (length nodes) in
     let some = few_below roots (length nodes) ascend within in
     omega (arith, both, inner, root, kept, range, some, few)
-
--- THE CHILDREN OF A NODE WITH A JOB
 
 with_job : (nodes : List SkelNode) (roots : List ℕ) (k child : ℕ) → Falls nodes → HasJob nodes roots k → IsChild nodes k child → HasRoot nodes roots child
 with_job nodes roots k child falls (inl c) told =
