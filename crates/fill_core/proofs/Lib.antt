@@ -1,4 +1,5 @@
 pub mod ChoiceLaws
 pub mod MaskLaws
 pub mod OfferLaws
+pub mod PlanLaws
 pub mod SiteLaws

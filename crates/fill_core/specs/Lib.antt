@@ -1,4 +1,5 @@
 pub mod Choices
 pub mod Offers
+pub mod Plans
 pub mod Sites
 pub mod View
