@@ -52,12 +52,7 @@ fn searched(alloc: Global, task: &Task, graph: &Graph) -> Result<Vec<Ranked>, Ou
 
 impl Engine {
     // The answers of a task over the graph of its skeletons, best first.
-    fn answers(
-        self,
-        alloc: Global,
-        task: &Task,
-        graph: &Graph,
-    ) -> Result<Vec<Ranked>, OutOfMemory>
+    fn answers(self, alloc: Global, task: &Task, graph: &Graph) -> Result<Vec<Ranked>, OutOfMemory>
         requires { trees_of graph.now.nodes ≡ skeletons task.now }
         ensures { IfOk result (λ list. map ranked_query list.items ≡ answers task.now) }
     {
@@ -69,13 +64,7 @@ impl Engine {
 }
 
 // Lists the answers of a task over the graph of its skeletons and writes its text.
-fn list<K: Sink>(
-    alloc: Global,
-    task: &Task,
-    graph: &Graph,
-    engine: Engine,
-    out: &mut K,
-) -> End
+fn list<K: Sink>(alloc: Global, task: &Task, graph: &Graph, engine: Engine, out: &mut K) -> End
     requires { trees_of graph.now.nodes ≡ skeletons task.now }
     ensures { Prints task.now (K.written out.old) (K.written out.new) (K.faults out.old) (K.faults out.new) result }
 {

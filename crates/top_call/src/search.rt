@@ -140,11 +140,7 @@ fn found_over(
 /// The answers of a task over the graph of its skeletons, best first. Each part is filled once, for all skeletons that have it.
 ///
 /// None where the rows of the parts weigh more than the task's budget.
-pub fn search(
-    alloc: Global,
-    task: &Task,
-    graph: &Graph,
-) -> Result<Option<Vec<Ranked>>, OutOfMemory>
+pub fn search(alloc: Global, task: &Task, graph: &Graph) -> Result<Option<Vec<Ranked>>, OutOfMemory>
     requires { trees_of graph.now.nodes ≡ skeletons task.now }
     ensures { IfOk result (λ list. IfSome list (λ list. map ranked_query list.items ≡ answers task.now)) }
 {

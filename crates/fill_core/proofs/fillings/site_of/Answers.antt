@@ -36,4 +36,3 @@ pub returns-in-Union-Some-Some-clause-filled : goal.returns-in-Union-Some-Some-c
 returns-in-Union-Some-Some-clause-filled c task parts =
     let i = c.in-Union-Some-Some in
     site_unions task Firsts i.left.now i.right.now (tree i.field-0-0) (tree i.field-1-0) (tree c.args.skeleton.now) _ _ (sym (tree_union i.field-0-0 i.field-1-0) ∙ ap tree (sym i.is-0)) (ap option_copied i.is-1) (ap option_copied i.is-2) parts
-

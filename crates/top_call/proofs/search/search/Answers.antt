@@ -17,5 +17,5 @@ pub returns : goal.returns
 returns c =
     let task = c.args.task.now in
     let all : map ranked_query c.in-Some-2.list.items ≡ map (ranked task) (found task) =
-        subst (λ o. IfSome o (λ list. ranked_queries list ≡ flat_map (root_answers task) (enumerate_from 0 (trees_of c.args.graph.now.nodes)))) c.in-Some-2.is c.in_ok-list.ensures ∙ ap (λ trees. flat_map (root_answers task) (enumerate_from 0 trees)) c.requires ∙ sym (answers_are task) in
+    subst (λ o. IfSome o (λ list. ranked_queries list ≡ flat_map (root_answers task) (enumerate_from 0 (trees_of c.args.graph.now.nodes)))) c.in-Some-2.is c.in_ok-list.ensures ∙ ap (λ trees. flat_map (root_answers task) (enumerate_from 0 trees)) c.requires ∙ sym (answers_are task) in
     c.in_ok-sort.ensures.sorted ∙ ap (ascending comes_before) all
