@@ -92,7 +92,7 @@ none_not n = grind (arith, nat_tests)
 both_next : (m n : ℕ) → (suc m == suc n) ≡ (m == n)
 both_next m n = grind (arith, nat_tests)
 
-agrees_all : (row : Row) (picks : List ℕ) (other : Row) → same_cells (projected picks row) other ≡ ((length other == length picks) && agrees row picks other 0)
+pub agrees_all : (row : Row) (picks : List ℕ) (other : Row) → same_cells (projected picks row) other ≡ ((length other == length picks) && agrees row picks other 0)
 agrees_all row [] [] = refl
 agrees_all row [] (v ∷ other) = sym (ap (λ b. b && true) (not_none (length other)))
 agrees_all row (at ∷ picks) [] = sym (ap (λ b. b && agrees row (at ∷ picks) [] 0) (none_not (length picks)))

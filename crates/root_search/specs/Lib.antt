@@ -1,6 +1,7 @@
 pub mod Answers
 pub mod Laws
 pub mod Narrow
+pub mod Open
 pub mod Readings
 pub mod Reads
 pub mod Targets

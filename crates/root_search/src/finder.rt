@@ -1,3 +1,4 @@
+use crate::open::is_open;
 use crate::reading::{Reading, readings};
 use crate::refill::refilled;
 use crate::target::bits_give;
@@ -167,6 +168,9 @@ impl Receiver for Root<'_> {
         types: &[ColType],
         candidates: &[Tuple],
     ) -> Result<Option<Items<Reading>>, OutOfMemory> {
+        if !is_open(types, candidates, self.task.output()) {
+            return Ok(None);
+        }
         let list = readings(alloc, types, candidates, self.task.output())?;
         if list.is_empty() {
             return Ok(None);

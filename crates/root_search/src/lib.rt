@@ -4,6 +4,7 @@
 mod finder;
 mod laws;
 mod offer;
+mod open;
 mod places;
 mod reading;
 mod refill;
