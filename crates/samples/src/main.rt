@@ -13,6 +13,7 @@ mod lists;
 mod make;
 mod membership;
 mod predicates;
+mod pruning;
 mod queries;
 mod readings;
 mod records;
@@ -45,6 +46,7 @@ fn main(rt: HostRuntime) -> Result<(), Failed> {
     membership::samples(&rt, alloc)?;
     queries::samples(&rt, alloc)?;
     search::samples(&rt, alloc)?;
+    pruning::samples(&rt, alloc)?;
     files::samples(&rt, alloc)?;
     edge::samples(&rt, alloc)?;
     edge::read(

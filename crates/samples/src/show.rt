@@ -1,5 +1,6 @@
 //! How the samples print what has no text of its own.
 
+use over_cells::AbsCell;
 use std::{fmt, str};
 use table_core::{Column, Table, Tuple};
 use toml_keys::KeyFault;
@@ -46,6 +47,45 @@ impl fmt::Display for Rows<'_> {
     fn fmt<W: fmt::Write>(&self, f: &mut fmt::Formatter<W>) -> fmt::Result {
         for row in self.0 {
             write!(f, " {}", Row(row))?;
+        }
+        Ok(())
+    }
+}
+
+/// An abstract cell: a value, some values, a span of numbers, or any value; with a question mark where it may be NULL beside these.
+#[derive(Clone, Copy)]
+pub struct AbstractCell<'a>(pub &'a AbsCell);
+
+// The sign of what may be NULL.
+fn mark(null: bool) -> &'static str {
+    if null { "?" } else { "" }
+}
+
+impl fmt::Display for AbstractCell<'_> {
+    fn fmt<W: fmt::Write>(&self, f: &mut fmt::Formatter<W>) -> fmt::Result {
+        match self.0 {
+            AbsCell::Known(value) => write!(f, "{}", Cell(value)),
+            AbsCell::From { values, null } => {
+                for value in values.as_slice() {
+                    write!(f, "{} ", Cell(value))?;
+                }
+                write!(f, "{}", mark(*null))
+            }
+            AbsCell::Within { lo, hi, null } => write!(f, "{lo}..{hi}{}", mark(*null)),
+            AbsCell::Any => write!(f, "*"),
+        }
+    }
+}
+
+/// An abstract row: its cells between bars.
+#[derive(Clone, Copy)]
+pub struct Abstract<'a>(pub &'a [AbsCell]);
+
+impl fmt::Display for Abstract<'_> {
+    fn fmt<W: fmt::Write>(&self, f: &mut fmt::Formatter<W>) -> fmt::Result {
+        write!(f, "|")?;
+        for cell in self.0 {
+            write!(f, "{}|", AbstractCell(cell))?;
         }
         Ok(())
     }

@@ -1,0 +1,107 @@
+//! The abstract rows of skeletons, whether they serve an output, and the jobs of a search.
+
+ghost use Rattle.std.specs.Prelude.{◌≡◌};
+ghost use Rattle.query_core.specs.Grammar.{skeletons};
+ghost use Rattle.skeleton_graph.specs.Nodes.{trees_of};
+
+use crate::fault::Failed;
+use crate::make::{Shape, Tree, node, task};
+use crate::show::Abstract;
+use fill_core::Plan;
+use over_eval::{AbsRow, can_serve_by, over};
+use predicate_core::Pred;
+use query_core::{Agg, Node, Pairing};
+use skeleton_graph::{Graph, GraphFault, build};
+use sqlite_items::Items;
+use std::alloc::Global;
+use table_core::Task;
+
+const SHAPE: Shape = Shape {
+    inputs: &[
+        ("t", "a#\n1\n2\n-"),
+        ("u", "a#\n1"),
+        ("v", "a#\n9223372036854775807\n1"),
+    ],
+    output: "a#\n2",
+    numbers: [2, 2, 1, 25, 1],
+    ..Shape::LEAST
+};
+
+const ONE_FILTER: Shape = Shape {
+    inputs: &[("t", "a#\n1\n2")],
+    numbers: [1, 1, 1, 25, 1],
+    ..Shape::LEAST
+};
+
+const T: &Tree = &Tree::Base(0);
+
+const U: &Tree = &Tree::Base(1);
+
+const V: &Tree = &Tree::Base(2);
+
+const FILTERED: &Tree = &Tree::Filter(T, Pred::Always);
+
+const LARGEST: &Tree = &Tree::Group(FILTERED, &[], Agg::Max(0));
+
+const TREES: &[Tree] = &[
+    Tree::Pair(Pairing::Left, U, U, Pred::Always),
+    Tree::Group(FILTERED, &[], Agg::Max(0)),
+    Tree::Group(FILTERED, &[0], Agg::CountAll),
+    Tree::Group(LARGEST, &[0], Agg::CountAll),
+    Tree::Group(V, &[], Agg::Sum(0)),
+];
+
+// Each abstract row.
+fn listed(rt: &impl Print, rows: &[AbsRow]) -> Result<(), Failed> {
+    for row in rows {
+        print!(rt; "{} ", Abstract(row.cells()))?;
+    }
+    Ok(())
+}
+
+// The abstract rows of a tree, and whether their first column serves the output.
+fn shown(rt: &impl Print, alloc: Global, task: &Task, tree: &Node) -> Result<(), Failed> {
+    let Some(rows) = over(alloc, task.parts(), tree)? else {
+        println!(rt; "never")?;
+        return Ok(());
+    };
+    let maps = [Items::from_slice(alloc, &[0usize])?];
+    listed(rt, rows.as_slice())?;
+    let serves = can_serve_by(rows.as_slice(), task.output().tuples(), &maps);
+    println!(rt; "{serves}")?;
+    Ok(())
+}
+
+fn trees(rt: &impl Print, alloc: Global, task: &Task) -> Result<(), Failed> {
+    for tree in TREES {
+        shown(rt, alloc, task, &node(alloc, tree)?)?;
+    }
+    Ok(())
+}
+
+// The jobs of a search of the last node of a graph as its only root.
+fn planned(rt: &impl Print, alloc: Global, task: &Task, graph: Graph) -> Result<(), Failed>
+    requires { trees_of graph.nodes ≡ skeletons task.now }
+{
+    let mut roots = Vec::new(alloc);
+    if !graph.is_empty() {
+        roots.push(graph.len() - 1)?;
+    }
+    let plan = Plan::new(alloc, task, graph, roots)?;
+    println!(rt; "{:?}", plan.jobs())?;
+    Ok(())
+}
+
+// Those of the graph of a task.
+fn jobs(rt: &impl Print, alloc: Global, task: &Task) -> Result<(), Failed> {
+    match build(alloc, task) {
+        Ok(graph) => planned(rt, alloc, task, graph),
+        Err(GraphFault::TooMany { .. }) => Err(Failed::BadSample),
+        Err(GraphFault::OutOfMemory) => Err(Failed::NoMemory),
+    }
+}
+
+pub fn samples(rt: &impl Print, alloc: Global) -> Result<(), Failed> {
+    trees(rt, alloc, &task(alloc, &SHAPE)?)?;
+    jobs(rt, alloc, &task(alloc, &ONE_FILTER)?)
+}
