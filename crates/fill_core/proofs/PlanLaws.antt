@@ -17,7 +17,8 @@ use Rattle.skeleton_graph.proofs.BoundLaws.{Below}
 use Rattle.skeleton_graph.proofs.ChainLaws.{below_is}
 use Rattle.fill_core.specs.declared.job.Job.{Job}
 use Rattle.fill_core.specs.declared.job.Job.TheVariants.{Inner, Root}
-use Rattle.fill_core.specs.Plans.{is_among, is_inner, inner_of, jobs_of, IsChild, HasJob, ChildrenAreInner, with_mark, with_children, marked_under, marked_by, marked_down, marks_below, inner_jobs}
+use Rattle.fill_core.specs.Plans.{is_among, is_inner, inner_of, jobs_of, IsChild, HasJob, ChildrenAreInner}
+use Rattle.fill_core.specs.Marks.{with_mark, with_children, marked_under, marked_by, marked_down, marks_below, inner_jobs}
 
 -- whether the children of each node have lower numbers
 pub record Falls (nodes : List SkelNode) : Type 0 where
@@ -73,10 +74,10 @@ among_in numbers n is = let h = any_in (λ m. m == n) numbers is in in_same n h.
 in_among : (numbers : List ℕ) (n : ℕ) → In n numbers → is_among numbers n ≡ true
 in_among numbers n i = in_any (λ m. m == n) numbers n i (eq-eqb n n refl)
 
-contains_in : (xs : List ℕ) (x : ℕ) → Contains xs x → In x xs
+pub contains_in : {X : Type 0} (xs : List X) (x : X) → Contains xs x → In x xs
 contains_in xs x c = in_at xs c.0 x (slice_get-get_or xs c.0 x c.1 ∙ ap Some c.2)
 
-in_contains : (xs : List ℕ) (x : ℕ) → In x xs → Contains xs x
+pub in_contains : {X : Type 0} (xs : List X) (x : X) → In x xs → Contains xs x
 in_contains xs x i = let h = at_in x xs i in (h.0, slice_get_within xs h.0 x h.1, get_or_from_slice_get xs h.0 x x h.1)
 
 -- two tests that pass together are the same

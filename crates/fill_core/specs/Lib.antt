@@ -1,4 +1,5 @@
 pub mod Choices
+pub mod Marks
 pub mod Offers
 pub mod Plans
 pub mod Sites

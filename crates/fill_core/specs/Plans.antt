@@ -1,5 +1,5 @@
 -- Plans of a search: which nodes of the graph of skeletons are filled, and which are searched as roots.
-use Rattle.std.specs.Prelude.{◌≡◌, ℕ, zero, suc, ◌+◌, ◌<◌, ◌≤◌, ◌==◌, ◌⊎◌, Bool, true, false, List, [], ◌∷◌, ◌++◌, All, Contains, filter, length, map, replicate, slice_index_or, slice_set, Option, Some, None, if◌then◌else◌}
+use Rattle.std.specs.Prelude.{◌≡◌, ℕ, ◌<◌, ◌≤◌, ◌==◌, ◌⊎◌, Bool, List, ◌++◌, All, Contains, filter, length, map, slice_get, take, Some}
 use Rattle.std.specs.List.{list_any, range_with_len}
 use Rattle.std.specs.List.Sorted.{IsStrictlyIncreasing}
 use Rattle.table_core.specs.declared.task.TaskParts.{TaskParts}
@@ -58,34 +58,11 @@ HasJob nodes roots k = Contains (inner_of nodes roots) k ⊎ Contains roots k
 abbrev pub ChildrenAreInner : List SkelNode → List ℕ → Type 0
 ChildrenAreInner nodes roots = (k child : ℕ) → HasJob nodes roots k → IsChild nodes k child → Contains (inner_of nodes roots) child × (child < k)
 
--- marks, and that of a child set, where there is one
-abbrev pub with_mark : List Bool → Option ℕ → List Bool
-with_mark marks None = marks
-with_mark marks (Some child) = slice_set marks child true
+-- the node of a job
+abbrev pub node_of : Job → ℕ
+node_of (Inner k) = k
+node_of (Root k) = k
 
--- marks, and those of a node's children set
-abbrev pub with_children : List SkelNode → List Bool → ℕ → List Bool
-with_children nodes marks k = with_mark (with_mark marks (left_of nodes k)) (right_of nodes k)
-
--- marks, and those of the children of some nodes set
-abbrev pub marked_under : List SkelNode → List Bool → List ℕ → List Bool
-marked_under nodes marks [] = marks
-marked_under nodes marks (k ∷ numbers) = marked_under nodes (with_children nodes marks k) numbers
-
--- marks, and those of a node's children set where it is marked
-abbrev pub marked_by : List SkelNode → List Bool → ℕ → List Bool
-marked_by nodes marks k = if slice_index_or marks k false then with_children nodes marks k else marks
-
--- marks, and those of the children of each marked node below a number set, the highest first
-abbrev pub marked_down : List SkelNode → ℕ → List Bool → List Bool
-marked_down nodes zero marks = marks
-marked_down nodes (suc k) marks = marked_down nodes k (marked_by nodes marks k)
-
--- of each node, whether it stands below a root
-abbrev pub marks_below : List SkelNode → List ℕ → List Bool
-marks_below nodes roots = marked_down nodes (length nodes) (marked_under nodes (replicate (length nodes) false) roots)
-
--- the jobs of the marked nodes, numbered from a number on
-abbrev pub inner_jobs : ℕ → List Bool → List Job
-inner_jobs k [] = []
-inner_jobs k (mark ∷ marks) = (if mark then Inner k ∷ [] else []) ++ inner_jobs (k + 1) marks
+-- whether each child of a job's node is filled by a job before it
+abbrev pub PartsComeFirst : List SkelNode → List Job → Type 0
+PartsComeFirst nodes jobs = (i child : ℕ) (job : Job) → slice_get jobs i ≡ Some job → IsChild nodes (node_of job) child → Contains (take i jobs) (Inner child)

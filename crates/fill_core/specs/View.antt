@@ -50,3 +50,7 @@ has_parts (t.unite kind a b) left right = is_some left && is_some right
 -- the weight of a row: for each filling one and the number of its rows
 abbrev pub weight : Row → ℕ
 weight row = sum_by (λ (e : Entry). length e.rows + 1) row.entries
+
+-- the weight of a skeleton: for each of its standard fillings one and the number of its rows
+abbrev pub weight_of : TaskParts → Tree → ℕ
+weight_of task skeleton = sum_by (λ (f : Filled). length f.rows + 1) (standard_fillings task skeleton)

@@ -1,5 +1,6 @@
 ghost use Rattle.std.specs.Prelude.{◌≡◌, ◌<◌, ◌≤◌, ◌++◌, ◌∷◌, [], All, length, map, IfOk, OnOk, if◌then◌else◌};
-ghost use Rattle.fill_core.specs.Plans.{inner_jobs, jobs_of, marked_down, marked_under, marks_below, with_children, with_mark};
+ghost use Rattle.fill_core.specs.Marks.{inner_jobs, marked_down, marked_under, marks_below, with_children, with_mark};
+ghost use Rattle.fill_core.specs.Plans.{jobs_of};
 ghost use Rattle.fill_core.specs.declared.job.Job.TheVariants.{Inner, Root};
 
 use crate::job::Job;

@@ -31,7 +31,7 @@ impl<'t> Model for Plan<'t> {
 }
 
 impl<'t> Plan<'t> {
-    ghost use Rattle.fill_core.specs.Plans.{plan_of, IsPlan, ChildrenAreInner};
+    ghost use Rattle.fill_core.specs.Plans.{plan_of, node_of, IsPlan, ChildrenAreInner, PartsComeFirst};
 
     /// The plan of a search of these roots, which ascend.
     pub fn new(
@@ -55,10 +55,12 @@ impl<'t> Plan<'t> {
         })
     }
 
-    /// The laws of every plan: it is of its task's graph and roots, and each child of a node with a job is inner, with a lower number.
+    /// The laws of every plan: it is of its task's graph and roots, each job's node is of the graph, and each child of that node is inner, with a lower number and a job before.
     pub fn is_planned(&self)
         ensures planned { IsPlan self.now.task self.now.graph self.now.roots self.now.jobs }
         ensures inner { ChildrenAreInner self.now.graph.nodes self.now.roots }
+        ensures first { PartsComeFirst self.now.graph.nodes self.now.jobs }
+        ensures nodes { All (λ job. node_of job < length self.now.graph.nodes) self.now.jobs }
     {
         let _ = &self.jobs;
     }

@@ -141,17 +141,21 @@ kept_skeleton task s is_open =
     ∙ sym (flat_map_twice (answers_on task s.0 s.1) (filled_of task) (fillings task s.1))
     ∙ ap (flat_map (answers_on task s.0 s.1)) (fillings_kept task s.1)
 
-in_numbered : (k : ℕ) (trees : List Tree) (s : ℕ × Tree) → In s (enumerate_from k trees) → In s.1 trees
+pub in_numbered : (k : ℕ) (trees : List Tree) (s : ℕ × Tree) → In s (enumerate_from k trees) → In s.1 trees
 in_numbered k [] s i = absurd i
 in_numbered k (x ∷ trees) s (inl e) = inl (ap (λ p. p.1) e)
 in_numbered k (x ∷ trees) s (inr i) = inr (in_numbered (k + 1) trees s i)
 
+-- the answers among the queries of some skeletons are those of their standard fillings, in order
+pub answers_of : (task : TaskParts) (ss : List (ℕ × Tree)) → ((s : ℕ × Tree) → In s ss → In s.1 (skeletons task)) → map (ranked task) (list_filter (is_answer task) (flat_map (numbered task) ss)) ≡ flat_map (root_answers task) ss
+answers_of task ss listed =
+    kept_joined (ranked task) (is_answer task) (numbered task) ss
+    ∙ flat_map_in (λ s. map (ranked task) (list_filter (is_answer task) (numbered task s))) (root_answers task) ss
+    (λ s i. kept_skeleton task s (opened_skeletons task s.1 (listed s i)))
+
 -- the answers of a task are those of its skeletons, in order
-pub answers_are : (task : TaskParts) → map (ranked task) (found task) ≡ flat_map (root_answers task) (enumerate_from 0 (skeletons task))
-answers_are task =
-    kept_joined (ranked task) (is_answer task) (numbered task) (enumerate_from 0 (skeletons task))
-    ∙ flat_map_in (λ s. map (ranked task) (list_filter (is_answer task) (numbered task s))) (root_answers task) (enumerate_from 0 (skeletons task))
-    (λ s i. kept_skeleton task s (opened_skeletons task s.1 (in_numbered 0 (skeletons task) s i)))
+pub answers_are : (task : TaskParts) → AnswersByRoots task
+answers_are task = answers_of task (enumerate_from 0 (skeletons task)) (λ s i. in_numbered 0 (skeletons task) s i)
 
 -- the queries of a skeleton's standard fillings are of the grammar
 

@@ -1,3 +1,4 @@
+pub mod NeedLaws
 pub mod RunLaws
 pub mod SearchLaws
 pub mod WriteLaws

@@ -1,19 +1,29 @@
--- The rows that a search keeps are those of its nodes' parts.
-use Rattle.std.proofs.Common.{◌≡◌, ℕ, ◌<◌, ◌≤◌, arith, zero, suc, true, false, Bool, ◌&&◌, is_some, List, [], ◌∷◌, ◌++◌, length, Option, Some, None, refl, sym, ap, subst, ◌∙◌, ◌⊎◌, inl, inr}
-use Rattle.std.specs.Prelude.{slice_get, option_and_then, IfSome}
-use Rattle.std.proofs.lemmas.Option.{same_Some, slice_get_within}
+-- Laws of a search of a plan: the rows that it keeps are those of its nodes' parts, and what they cost.
+use Rattle.std.proofs.Common.{◌≡◌, ℕ, ◌+◌, ◌<◌, ◌≤◌, arith, zero, suc, get_or, true, false, Bool, is_some, List, [], ◌∷◌, ◌++◌, length, set, take, Option, Some, None, refl, sym, ap, subst, ◌∙◌, ◌⊎◌, inl, inr}
+use Rattle.std.specs.Prelude.{slice_get, option_and_then, Contains}
+use Rattle.std.specs.List.{sum_by}
+use Rattle.std.proofs.lemmas.Bool.{false≢true}
+use Rattle.std.proofs.lemmas.List.{take_more}
+use Rattle.std.proofs.lemmas.List.Sums.{sum_by_more, sum_by-take-le}
+use Rattle.std.proofs.lemmas.Option.{same_Some, none-some, slice_get_within, get_or_from_slice_get}
+use Rattle.value_core.specs.declared.value.ColType.{ColType}
+use Rattle.predicate_core.proofs.OnceLists.{In, in_append}
 use Rattle.table_core.specs.declared.task.TaskParts.{TaskParts}
 use Rattle.query_core.specs.Tree.{Tree}
 use Rattle.query_core.specs.Tree as t
-use Rattle.skeleton_graph.specs.GraphData.{Descends}
+use Rattle.skeleton_graph.specs.GraphData.{IsGraph, HasItsChildren}
 use Rattle.skeleton_graph.specs.Nodes.{kind_tree, child_tree, tree_at, trees_of, left_of, right_of}
 use Rattle.skeleton_graph.specs.declared.node.Kind.{Kind}
 use Rattle.skeleton_graph.specs.declared.node.Kind.TheVariants as kind
 use Rattle.skeleton_graph.specs.declared.node.SkelNode.{SkelNode}
 use Rattle.skeleton_graph.proofs.TreeLaws.{tree_made}
-use Rattle.fill_core.specs.View.{IsRowOf, IsPartOf, ArePartsOf, has_parts}
+use Rattle.fill_core.specs.Plans.{node_of, IsChild, PartsComeFirst}
+use Rattle.fill_core.specs.View.{IsRowOf, IsPartOf, ArePartsOf}
+use Rattle.fill_core.specs.declared.job.Job.{Job}
+use Rattle.fill_core.specs.declared.job.Job.TheVariants.{Inner, Root}
 use Rattle.fill_core.specs.declared.row.Row.{Row}
-use Rattle.top_call.specs.Search.{kept_row, AreKept}
+use Rattle.fill_core.proofs.PlanLaws.{contains_in, in_contains}
+use Rattle.top_call.specs.Search.{part_cost, kept_row, AreKept, ChildrenKept, FilledAreKept, IsKept, IsLeft}
 
 -- a row that may not be there is the one of a skeleton, where it is there
 abbrev MayBeRowOf : TaskParts → Tree → Option Row → Type 0
@@ -21,63 +31,106 @@ MayBeRowOf task tree None = Unit {0}
 MayBeRowOf task tree (Some row) = IsRowOf task tree row
 
 part_of : (task : TaskParts) (tree : Tree) (row : Option Row) → MayBeRowOf task tree row → is_some row ≡ true → IsPartOf task tree row
-part_of task tree None may there = cc
+part_of task tree None may there = absurd (false≢true there)
 part_of task tree (Some row) may there = may
 
-first_of : (a b : Bool) → a && b ≡ true → a ≡ true
-first_of true b both = refl
-first_of false b both = cc
-
-second_of : (a b : Bool) → a && b ≡ true → b ≡ true
-second_of true b both = both
-second_of false b both = cc
-
-parts_of : (task : TaskParts) (k : Kind) (a b : Tree) (left right : Option Row) → MayBeRowOf task a left → MayBeRowOf task b right → has_parts (kind_tree k a b) left right ≡ true → ArePartsOf task (kind_tree k a b) left right
-parts_of task (kind.Base table) a b left right l r there = tt
-parts_of task kind.Filter a b left right l r there = part_of task a left l there
-parts_of task kind.Join a b left right l r there = (part_of task a left l (first_of (is_some left) (is_some right) there), part_of task b right r (second_of (is_some left) (is_some right) there))
-parts_of task kind.Left a b left right l r there = (part_of task a left l (first_of (is_some left) (is_some right) there), part_of task b right r (second_of (is_some left) (is_some right) there))
-parts_of task (kind.Group keys agg) a b left right l r there = part_of task a left l there
-parts_of task kind.UnionAll a b left right l r there = (part_of task a left l (first_of (is_some left) (is_some right) there), part_of task b right r (second_of (is_some left) (is_some right) there))
-parts_of task kind.Union a b left right l r there = (part_of task a left l (first_of (is_some left) (is_some right) there), part_of task b right r (second_of (is_some left) (is_some right) there))
-
--- what is kept of a child is its row
-kept_is : (task : TaskParts) (nodes : List SkelNode) (rows : List (Option Row)) (child : Option ℕ) → AreKept task nodes rows → MayBeRowOf task (child_tree (trees_of nodes) child) (kept_row rows child)
-kept_is task nodes rows None kept = tt
-kept_is task nodes rows (Some k) kept = at (slice_get rows k) refl
+-- what is kept of a node is its row
+kept_is : (task : TaskParts) (nodes : List SkelNode) (rows : List (Option Row)) (k : ℕ) → AreKept task nodes rows → MayBeRowOf task (tree_at (trees_of nodes) k) (kept_row rows (Some k))
+kept_is task nodes rows k kept = at (slice_get rows k) refl
   where
     at : (found : Option (Option Row)) → slice_get rows k ≡ found → MayBeRowOf task (tree_at (trees_of nodes) k) (option_and_then (λ (row : Option Row). row) found)
     at None is = tt
     at (Some None) is = tt
     at (Some (Some row)) is = kept k row is
 
--- the rows that are kept of a node's children are those of its parts, where it has them
-pub parts_kept : (task : TaskParts) (nodes : List SkelNode) (rows : List (Option Row)) (k : ℕ) (node : SkelNode) (skeleton : Tree) (left right : Option Row)
-    → Descends (left_of nodes) → Descends (right_of nodes) → AreKept task nodes rows → slice_get nodes k ≡ Some node → skeleton ≡ tree_at (trees_of nodes) k
-    → left ≡ kept_row rows node.left → right ≡ kept_row rows node.right → has_parts skeleton left right ≡ true → ArePartsOf task skeleton left right
-parts_kept task nodes rows k node skeleton left right lefts rights kept is is_skeleton is_left is_right there =
+-- a child that a node has is its part, where it is kept
+child_part : (task : TaskParts) (nodes : List SkelNode) (rows : List (Option Row)) (child : Option ℕ) → AreKept task nodes rows → ((c : ℕ) → child ≡ Some c → IsKept rows c) → is_some child ≡ true
+    → IsPartOf task (child_tree (trees_of nodes) child) (kept_row rows child)
+child_part task nodes rows None kept each there = absurd (false≢true there)
+child_part task nodes rows (Some c) kept each there = part_of task (tree_at (trees_of nodes) c) (kept_row rows (Some c)) (kept_is task nodes rows c kept) (each c refl)
+
+parts_of : (task : TaskParts) (k : Kind) (a b : Tree) (left right : Option Row) (l r : Option ℕ) → HasItsChildren k l r → (is_some l ≡ true → IsPartOf task a left) → (is_some r ≡ true → IsPartOf task b right)
+    → ArePartsOf task (kind_tree k a b) left right
+parts_of task (kind.Base table) a b left right l r has first second = tt
+parts_of task kind.Filter a b left right l r has first second = first has.0
+parts_of task kind.Join a b left right l r has first second = (first has.0, second has.1)
+parts_of task kind.Left a b left right l r has first second = (first has.0, second has.1)
+parts_of task (kind.Group keys agg) a b left right l r has first second = first has.0
+parts_of task kind.UnionAll a b left right l r has first second = (first has.0, second has.1)
+parts_of task kind.Union a b left right l r has first second = (first has.0, second has.1)
+
+-- the rows that are kept of a node's children are those of its parts
+pub parts_kept : (task : TaskParts) (nodes : List SkelNode) (types : List (List ColType)) (rows : List (Option Row)) (k : ℕ) (node : SkelNode) (skeleton : Tree) (left right : Option Row)
+    → IsGraph nodes types → AreKept task nodes rows → ChildrenKept nodes rows k → slice_get nodes k ≡ Some node → skeleton ≡ tree_at (trees_of nodes) k
+    → left ≡ kept_row rows node.left → right ≡ kept_row rows node.right → ArePartsOf task skeleton left right
+parts_kept task nodes types rows k node skeleton left right graph kept children is is_skeleton is_left is_right =
     let trees = trees_of nodes in
-    let made : skeleton ≡ kind_tree node.kind (child_tree trees node.left) (child_tree trees node.right) = is_skeleton ∙ tree_made nodes k node lefts rights is in
-    let l : MayBeRowOf task (child_tree trees node.left) left = subst (MayBeRowOf task (child_tree trees node.left)) (sym is_left) (kept_is task nodes rows node.left kept) in
-    let r : MayBeRowOf task (child_tree trees node.right) right = subst (MayBeRowOf task (child_tree trees node.right)) (sym is_right) (kept_is task nodes rows node.right kept) in
-    let there_made : has_parts (kind_tree node.kind (child_tree trees node.left) (child_tree trees node.right)) left right ≡ true = ap (λ s. has_parts s left right) (sym made) ∙ there in
-    subst (λ s. ArePartsOf task s left right) (sym made) (parts_of task node.kind (child_tree trees node.left) (child_tree trees node.right) left right l r there_made)
+    let made : skeleton ≡ kind_tree node.kind (child_tree trees node.left) (child_tree trees node.right) = is_skeleton ∙ tree_made nodes k node graph.lefts graph.rights is in
+    let first : is_some node.left ≡ true → IsPartOf task (child_tree trees node.left) left = λ there.
+      subst (IsPartOf task (child_tree trees node.left)) (sym is_left) (child_part task nodes rows node.left kept (λ c e. children c (inl (ap (option_and_then (λ (n : SkelNode). n.left)) is ∙ e))) there) in
+    let second : is_some node.right ≡ true → IsPartOf task (child_tree trees node.right) right = λ there.
+      subst (IsPartOf task (child_tree trees node.right)) (sym is_right) (child_part task nodes rows node.right kept (λ c e. children c (inr (ap (option_and_then (λ (n : SkelNode). n.right)) is ∙ e))) there) in
+    subst (λ s. ArePartsOf task s left right) (sym made)
+    (parts_of task node.kind (child_tree trees node.left) (child_tree trees node.right) left right node.left node.right (graph.shaped k node is) first second)
 
--- of rows and one more, each is one of the rows or the last
-last_or_earlier : {X : Type 0} (rows : List X) (last : X) (k : ℕ) (row : X) → slice_get (rows ++ last ∷ []) k ≡ Some row → (slice_get rows k ≡ Some row) ⊎ ((k ≡ length rows) × (last ≡ row))
-last_or_earlier [] last zero row there = inr (refl, same_Some last row there)
-last_or_earlier [] last (suc k) row there = cc
-last_or_earlier (x ∷ rows) last zero row there = inl there
-last_or_earlier (x ∷ rows) last (suc k) row there = later (last_or_earlier rows last k row there)
-  where
-    later : (slice_get rows k ≡ Some row) ⊎ ((k ≡ length rows) × (last ≡ row)) → (slice_get rows k ≡ Some row) ⊎ ((suc k ≡ suc (length rows)) × (last ≡ row))
-    later (inl e) = inl e
-    later (inr e) = inr (ap suc e.0, e.1)
+-- an element of a list of which one is set is that one, or was there
+set_was : {X : Type 0} (xs : List X) (k j : ℕ) (x y : X) → slice_get (set xs k x) j ≡ Some y → ((j ≡ k) × (x ≡ y)) ⊎ (slice_get xs j ≡ Some y)
+set_was [] k j x y is = inr is
+set_was (z ∷ xs) zero zero x y is = inl (refl, same_Some x y is)
+set_was (z ∷ xs) zero (suc j) x y is = inr is
+set_was (z ∷ xs) (suc k) zero x y is = inr is
+set_was (z ∷ xs) (suc k) (suc j) x y is = elim (set_was xs k j x y is) [ inl e ↦ inl (ap suc e.0, e.1) | inr was ↦ inr was ]
 
--- one row more is kept
-pub kept_more : (task : TaskParts) (nodes : List SkelNode) (rows : List (Option Row)) (number : ℕ) (row : Option Row) → number ≡ length rows → AreKept task nodes rows → IfSome row (IsRowOf task (tree_at (trees_of nodes) number)) → AreKept task nodes (rows ++ row ∷ [])
-kept_more task nodes rows number row is kept new k there is_there = which (last_or_earlier rows row k (Some there) is_there)
-  where
-    which : (slice_get rows k ≡ Some (Some there)) ⊎ ((k ≡ length rows) × (row ≡ Some there)) → IsRowOf task (tree_at (trees_of nodes) k) there
-    which (inl e) = kept k there e
-    which (inr e) = subst (λ n. IsRowOf task (tree_at (trees_of nodes) n) there) (is ∙ sym e.0) (subst (λ r. IfSome r (IsRowOf task (tree_at (trees_of nodes) number))) e.1 new)
+-- a row that is put in its place is kept, and all that were kept are
+pub put_is : (rows : List (Option Row)) (k : ℕ) (row : Row) → k < length rows → IsKept (set rows k (Some row)) k
+put_is [] k row below = absurd (let no : ⊥ = omega (arith, below) in no)
+put_is (x ∷ rows) zero row below = refl
+put_is (x ∷ rows) (suc k) row below = put_is rows k row (omega (arith, below))
+
+pub put_still : (rows : List (Option Row)) (k j : ℕ) (row : Row) → IsKept rows j → IsKept (set rows k (Some row)) j
+put_still [] k j row was = was
+put_still (x ∷ rows) zero zero row was = refl
+put_still (x ∷ rows) zero (suc j) row was = was
+put_still (x ∷ rows) (suc k) zero row was = was
+put_still (x ∷ rows) (suc k) (suc j) row was = put_still rows k j row was
+
+pub put_kept : (task : TaskParts) (nodes : List SkelNode) (rows : List (Option Row)) (k : ℕ) (row : Row) → AreKept task nodes rows → IsRowOf task (tree_at (trees_of nodes) k) row → AreKept task nodes (set rows k (Some row))
+put_kept task nodes rows k row kept is =
+    λ j there found.
+    elim (set_was rows k j (Some row) (Some there) found) [
+      | inl h ↦ subst (λ n. IsRowOf task (tree_at (trees_of nodes) n) there) (sym h.0) (subst (IsRowOf task (tree_at (trees_of nodes) k)) (same_Some row there h.1) is)
+      | inr was ↦ kept j there was
+    ]
+
+-- the children of a job's node are kept, where what was filled before is
+pub children_kept : (nodes : List SkelNode) (jobs : List Job) (rows : List (Option Row)) (i : ℕ) (job : Job) → PartsComeFirst nodes jobs → slice_get jobs i ≡ Some job → FilledAreKept (take i jobs) rows → ChildrenKept nodes rows (node_of job)
+children_kept nodes jobs rows i job first is filled = λ child told. filled child (first i child job is told)
+
+-- of one job more the row is kept
+pub filled_more : (jobs : List Job) (old new : List (Option Row)) (i : ℕ) (job : Job) → slice_get jobs i ≡ Some job → FilledAreKept (take i jobs) old → ((k : ℕ) → IsKept old k → IsKept new k) → FilledAreKept (job ∷ []) new
+    → FilledAreKept (take (i + 1) jobs) new
+filled_more jobs old new i job is before still last =
+    λ k there.
+    let more : take (i + 1) jobs ≡ take i jobs ++ job ∷ [] = take_more jobs i job (slice_get_within jobs i job is) ∙ ap (λ j. take i jobs ++ j ∷ []) (get_or_from_slice_get jobs i job job is) in
+    elim (in_append (Inner k) (take i jobs) (job ∷ []) (subst (In (Inner k)) more (contains_in (take (i + 1) jobs) (Inner k) there))) [
+      | inl earlier ↦ still k (before k (in_contains (take i jobs) (Inner k) earlier))
+      | inr now ↦ last k (in_contains (job ∷ []) (Inner k) now)
+    ]
+
+-- what one job more costs
+pub cost_more : (task : TaskParts) (trees : List Tree) (jobs : List Job) (i : ℕ) (job : Job) (budget left after : ℕ) → slice_get jobs i ≡ Some job → left + sum_by (part_cost task trees) (take i jobs) ≡ budget
+    → after + part_cost task trees job ≡ left → after + sum_by (part_cost task trees) (take (i + 1) jobs) ≡ budget
+cost_more task trees jobs i job budget left after is before last =
+    let f = part_cost task trees in
+    let more = sum_by_more f jobs i job (slice_get_within jobs i job is) in
+    let one : f (get_or jobs i job) ≡ f job = ap f (get_or_from_slice_get jobs i job job is) in
+    omega (arith, more, one, before, last)
+
+pub cost_over : (task : TaskParts) (trees : List Tree) (jobs : List Job) (i : ℕ) (job : Job) (budget left : ℕ) → slice_get jobs i ≡ Some job → left + sum_by (part_cost task trees) (take i jobs) ≡ budget
+    → left < part_cost task trees job → budget < sum_by (part_cost task trees) jobs
+cost_over task trees jobs i job budget left is before over =
+    let f = part_cost task trees in
+    let more = sum_by_more f jobs i job (slice_get_within jobs i job is) in
+    let one : f (get_or jobs i job) ≡ f job = ap f (get_or_from_slice_get jobs i job job is) in
+    let some = sum_by-take-le f jobs (i + 1) in
+    omega (arith, more, one, some, before, over)

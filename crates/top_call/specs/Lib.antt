@@ -4,3 +4,4 @@ pub mod Line
 pub mod Listing
 pub mod Piece
 pub mod Promise
+pub mod Need

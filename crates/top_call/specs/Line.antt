@@ -4,7 +4,7 @@ use Rattle.std.specs.Fmt.{decimal}
 use Rattle.task_read.specs.declared.fault.TaskFault.{TaskFault}
 use Rattle.task_read.specs.declared.fault.TaskFault.TheVariants.{TooLong, BadToml, UnknownKey, MissingKey, BadKey, BadText, NoHeader, BadName, BadWidth, BadCell, TooManyRows, TooManyColumns}
 use Rattle.top_call.specs.declared.end.End.{End}
-use Rattle.top_call.specs.declared.end.End.TheVariants.{Listed, Empty, Usage, BadTask, ReadFault, WriteFault, OutOfMemory, TooMany}
+use Rattle.top_call.specs.declared.end.End.TheVariants.{Listed, Empty, Usage, BadTask, ReadFault, WriteFault, OutOfMemory, TooMany, OverBudget}
 
 -- the words that tell what is wrong with a task
 abbrev pub fault_words : TaskFault → List ℕ
@@ -32,6 +32,7 @@ line Empty = []
 line Usage = line_of (codes "the words are not understood")
 line (BadTask fault) = line_of (codes "bad task: " ++ fault_words fault)
 line TooMany = line_of (codes "more than 100000 skeletons")
+line OverBudget = line_of (codes "the budget is too small")
 line (ReadFault file) = line_of (codes "cannot read " ++ file)
 line WriteFault = line_of (codes "cannot write")
 line OutOfMemory = line_of (codes "out of memory")
@@ -43,6 +44,7 @@ status Empty = 1
 status Usage = 2
 status (BadTask fault) = 3
 status TooMany = 4
+status OverBudget = 5
 status (ReadFault file) = 6
 status WriteFault = 7
 status OutOfMemory = 8

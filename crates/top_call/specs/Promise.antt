@@ -1,5 +1,5 @@
 -- What a run promises of its end.
-use Rattle.std.specs.Prelude.{◌≡◌, ◌⊎◌, ℕ, ◌<◌, true, false, List, [], length, Option, Some, None}
+use Rattle.std.specs.Prelude.{◌≡◌, ◌⊎◌, ℕ, ◌<◌, Bool, true, false, List, [], length, Option, Some, None}
 use Rattle.io_edge.specs.Rose.{Rose}
 use Rattle.table_core.specs.declared.task.TaskParts.{TaskParts}
 use Rattle.query_core.specs.Answers.{answers}
@@ -8,9 +8,20 @@ use Rattle.task_read.specs.Task.{Files, IsRead, task_told}
 use Rattle.task_read.specs.declared.fault.TaskFault.{TaskFault}
 use Rattle.command_line.specs.Command.{command, file_of}
 use Rattle.command_line.specs.declared.request.Request.{Request}
+use Rattle.command_line.specs.declared.request.Request.TheVariants.{Run, Plain}
 use Rattle.top_call.specs.Size.{has_few_skeletons}
 use Rattle.top_call.specs.declared.end.End.{End}
-use Rattle.top_call.specs.declared.end.End.TheVariants.{Listed, Empty, Usage, BadTask, ReadFault, WriteFault, OutOfMemory, TooMany}
+use Rattle.top_call.specs.declared.end.End.TheVariants.{Listed, Empty, Usage, BadTask, ReadFault, WriteFault, OutOfMemory, TooMany, OverBudget}
+
+-- whether a request asks for plain listing
+abbrev pub is_plain : Request → Bool
+is_plain (Run file workers) = false
+is_plain (Plain file) = true
+
+-- whether the words do; not where they aren't understood
+abbrev pub asks_plainly : Option Request → Bool
+asks_plainly None = false
+asks_plainly (Some request) = is_plain request
 
 -- the task that the words ask for, as the folder tells it; nothing is told where the words aren't understood
 abbrev pub asked_file : Files → Option Request → Told TaskParts TaskFault
@@ -42,6 +53,7 @@ UnlessReadFault (ReadFault file) P = Unit {0}
 UnlessReadFault WriteFault P = P
 UnlessReadFault OutOfMemory P = P
 UnlessReadFault TooMany P = P
+UnlessReadFault OverBudget P = P
 
 -- the ends at which nothing was written to the output
 abbrev pub IsUnwritten : End → Type 0
@@ -53,6 +65,7 @@ IsUnwritten (ReadFault file) = Unit {0}
 IsUnwritten WriteFault = ⊥
 IsUnwritten OutOfMemory = ⊥
 IsUnwritten TooMany = Unit {0}
+IsUnwritten OverBudget = Unit {0}
 
 -- a fact of the task, where one is told
 abbrev pub IfReady : Told TaskParts TaskFault → (TaskParts → Type 0) → Type 0
@@ -82,3 +95,4 @@ AnswersTask task (ReadFault file) = ⊥
 AnswersTask task WriteFault = ⊥
 AnswersTask task OutOfMemory = Unit {0}
 AnswersTask task TooMany = ⊥
+AnswersTask task OverBudget = ⊥

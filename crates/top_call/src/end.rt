@@ -16,6 +16,8 @@ pub enum End {
     BadTask(TaskFault),
     /// The task has more than 100,000 skeletons.
     TooMany,
+    /// The search of the task needs more than its budget.
+    OverBudget,
     /// This file couldn't be read.
     ReadFault { file: Bytes },
     /// The text couldn't be written whole.
@@ -36,6 +38,7 @@ impl End {
             End::Usage => 2,
             End::BadTask(_) => 3,
             End::TooMany => 4,
+            End::OverBudget => 5,
             End::ReadFault { .. } => 6,
             End::WriteFault => 7,
             End::OutOfMemory => 8,

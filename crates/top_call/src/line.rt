@@ -58,6 +58,7 @@ pub fn write_line<E: Sink>(err: &mut E, end: &End) -> Result<(), WriteFault>
         End::Usage => write_all(err, b"scythe: the words are not understood\n"),
         End::BadTask(fault) => write_bad_task(err, fault),
         End::TooMany => write_all(err, b"scythe: more than 100000 skeletons\n"),
+        End::OverBudget => write_all(err, b"scythe: the budget is too small\n"),
         End::ReadFault { file } => write_unread(err, file.as_slice()),
         End::WriteFault => write_all(err, b"scythe: cannot write\n"),
         End::OutOfMemory => write_all(err, b"scythe: out of memory\n"),

@@ -1,4 +1,4 @@
-ghost use Rattle.std.specs.Prelude.{◌≡◌, ◌↔◌, ◌⊎◌, ℕ, ◌<◌, List, [], length, Option, Some, None, true, false};
+ghost use Rattle.std.specs.Prelude.{◌≡◌, ◌↔◌, ◌⊎◌, ℕ, ◌<◌, ◌≤◌, List, [], length, Option, Some, None, true, false};
 ghost use Rattle.io_edge.specs.Rose.{Rose};
 ghost use Rattle.io_edge.specs.Gained.{Gained, GainedFront};
 ghost use Rattle.query_core.specs.Answers.{answers};
@@ -7,12 +7,13 @@ ghost use Rattle.task_read.specs.Told.{WhenReady, WhenFaulty};
 ghost use Rattle.task_read.specs.Task.{task_told};
 ghost use Rattle.task_read.specs.declared.fault.TaskFault.{TaskFault as Fault};
 ghost use Rattle.command_line.specs.Command.{command, file_of};
-ghost use Rattle.command_line.specs.declared.request.Request.TheVariants.{Plain};
+ghost use Rattle.command_line.specs.declared.request.Request.TheVariants.{Run, Plain};
+ghost use Rattle.top_call.specs.Need.{need, is_allowed};
 ghost use Rattle.top_call.specs.Size.{has_few_skeletons};
 ghost use Rattle.top_call.specs.Line.{line};
-ghost use Rattle.top_call.specs.Listing.{Runs, RunsWords};
-ghost use Rattle.top_call.specs.Promise.{asked, IsReadIn, NoneUnread, UnlessReadFault, IsUnwritten, IfReady, IsRefused, RefusedAs, AnswersTask};
-ghost use Rattle.top_call.specs.declared.end.End.TheVariants.{Listed, Empty, Usage, BadTask, ReadFault, WriteFault, OutOfMemory, TooMany};
+ghost use Rattle.top_call.specs.Listing.{Runs, RunsWords, lists_plainly};
+ghost use Rattle.top_call.specs.Promise.{is_plain, asks_plainly, asked, IsReadIn, NoneUnread, UnlessReadFault, IsUnwritten, IfReady, IsRefused, RefusedAs, AnswersTask};
+ghost use Rattle.top_call.specs.declared.end.End.TheVariants.{Listed, Empty, Usage, BadTask, ReadFault, WriteFault, OutOfMemory, TooMany, OverBudget};
 
 use crate::end::End;
 use crate::line::write_line;
@@ -45,7 +46,7 @@ fn run_file<F: Folder, K: Sink>(
     folder: &mut F,
     out: &mut K,
 ) -> End
-    ensures runs { Runs (F.told folder.old) (F.faults folder.old) (F.faults folder.new) file.now (K.written out.old) (K.written out.new) (K.faults out.old) (K.faults out.new) result }
+    ensures runs { Runs (F.told folder.old) (F.faults folder.old) (F.faults folder.new) (lists_plainly engine) file.now (K.written out.old) (K.written out.new) (K.faults out.old) (K.faults out.new) result }
     ensures still { UnlessReadFault result ((n : List ℕ) → F.faults folder.new n ≡ F.faults folder.old n) }
 {
     match read_task(alloc, folder, file.as_slice()) {
@@ -61,7 +62,7 @@ fn run_request<F: Folder, K: Sink>(
     folder: &mut F,
     out: &mut K,
 ) -> End
-    ensures runs { Runs (F.told folder.old) (F.faults folder.old) (F.faults folder.new) (file_of request.now) (K.written out.old) (K.written out.new) (K.faults out.old) (K.faults out.new) result }
+    ensures runs { Runs (F.told folder.old) (F.faults folder.old) (F.faults folder.new) (is_plain request.now) (file_of request.now) (K.written out.old) (K.written out.new) (K.faults out.old) (K.faults out.new) result }
     ensures still { UnlessReadFault result ((n : List ℕ) → F.faults folder.new n ≡ F.faults folder.old n) }
 {
     match request {
@@ -105,17 +106,20 @@ pub fn scythe<R: Threads + Sync, F: Folder, K: Sink, E: Sink, G: Gate + Sync>(
     ensures not_understood { command words.now ≡ None → (result ≡ Usage) ⊎ (result ≡ OutOfMemory) }
     ensures bad_task { (fault : Fault) → result ≡ BadTask fault → WhenFaulty (asked (F.told folder.old) words.now) (λ first. fault ≡ first) }
     ensures too_many { result ≡ TooMany → WhenReady (asked (F.told folder.old) words.now) (λ task. has_few_skeletons task ≡ false) }
+    ensures over_budget { result ≡ OverBudget → WhenReady (asked (F.told folder.old) words.now) (λ task. (has_few_skeletons task ≡ true) × (task.budget < need task)) }
+    ensures plain_never_over { (file : List ℕ) → command words.now ≡ Some (Plain file) → ¬ (result ≡ OverBudget) }
     ensures read { (file : List ℕ) → result ≡ ReadFault file → IsReadIn (F.told folder.old) words.now file × Rose (F.faults folder.old file) (F.faults folder.new file) }
     ensures write { result ≡ WriteFault → Rose (K.faults out.old) (K.faults out.new) }
-    ensures write_last { result ≡ WriteFault → WhenReady (asked (F.told folder.old) words.now) (λ task. has_few_skeletons task ≡ true) }
+    ensures write_last { result ≡ WriteFault → WhenReady (asked (F.told folder.old) words.now) (λ task. (has_few_skeletons task ≡ true) × (is_allowed (asks_plainly (command words.now)) task ≡ true)) }
 
     // At every end but `ReadFault`, also where a write failed, no read had failed.
     ensures still { UnlessReadFault result ((file : List ℕ) → F.faults folder.new file ≡ F.faults folder.old file) }
 
-    // Where no read failed, a task is answered unless a write failed or memory ran out, by `plain FILE` whatever its budget, and what is wrong is told.
-    ensures complete { NoneUnread (F.told folder.old) (F.faults folder.old) (F.faults folder.new) words.now → ¬ Rose (K.faults out.old) (K.faults out.new) → IfReady (asked (F.told folder.old) words.now) (λ task. has_few_skeletons task ≡ true → AnswersTask task result) }
+    // Where no read failed, a task that its budget allows is answered unless a write failed or memory ran out, by `plain FILE` whatever its budget, and what is wrong is told.
+    ensures complete { NoneUnread (F.told folder.old) (F.faults folder.old) (F.faults folder.new) words.now → ¬ Rose (K.faults out.old) (K.faults out.new) → IfReady (asked (F.told folder.old) words.now) (λ task. has_few_skeletons task ≡ true → need task ≤ task.budget → AnswersTask task result) }
     ensures plain { (file : List ℕ) → command words.now ≡ Some (Plain file) → NoneUnread (F.told folder.old) (F.faults folder.old) (F.faults folder.new) words.now → ¬ Rose (K.faults out.old) (K.faults out.new) → IfReady (task_told (F.told folder.old) file) (λ task. has_few_skeletons task ≡ true → AnswersTask task result) }
     ensures refused { NoneUnread (F.told folder.old) (F.faults folder.old) (F.faults folder.new) words.now → RefusedAs (asked (F.told folder.old) words.now) result }
+    ensures overrun { (file : List ℕ) (workers : ℕ) → command words.now ≡ Some (Run file workers) → NoneUnread (F.told folder.old) (F.faults folder.old) (F.faults folder.new) words.now → IfReady (task_told (F.told folder.old) file) (λ task. has_few_skeletons task ≡ true → task.budget < need task → (result ≡ OverBudget) ⊎ (result ≡ OutOfMemory)) }
 
     // What was written.
     ensures out_front { IfReady (asked (F.told folder.old) words.now) (λ task. GainedFront (K.written out.old) (K.written out.new) (text task)) }

@@ -1,20 +1,33 @@
-ghost use Rattle.std.specs.Prelude.{◌≡◌, ◌<◌, map, length, option_copied, IfOk, IfSome};
-ghost use Rattle.std.specs.List.{flat_map, enumerate_from};
-ghost use Rattle.query_core.specs.Answers.{answers};
-ghost use Rattle.query_core.specs.Grammar.{skeletons};
+ghost use Rattle.std.specs.Prelude.{◌≡◌, ◌≤◌, ◌<◌, ◌+◌, ◌++◌, ◌∷◌, [], ℕ, length, map, slice_get, option_copied, Some, Err, IfOk, OnOk};
+ghost use Rattle.fill_core.specs.declared.row.Row.{Row};
+ghost use Rattle.top_call.specs.declared.search.SearchEnd.TheVariants as SearchEnd;
+ghost use Rattle.query_core.specs.Answers.{ascending, comes_before};
 ghost use Rattle.rank_core.specs.View.{ranked_query, ranked_queries};
+ghost use Rattle.fill_core.specs.Plans.{node_of};
 ghost use Rattle.fill_core.specs.View.{IsRowOf};
-ghost use Rattle.root_search.specs.Answers.{root_answers};
 ghost use Rattle.skeleton_graph.specs.Nodes.{tree_at, trees_of};
-ghost use Rattle.top_call.specs.Search.{kept_row, AreKept};
+ghost use Rattle.top_call.specs.Search.{part_cost, parts_weigh, answers_at, plan_answers, plan_need, IsLeft, kept_row, AreKept, ChildrenKept, IsKept, FilledAreKept};
 
-use fill_core::{Below, Row, fill_node, has_parts};
+use fill_core::{Below, Job, Plan, Row, fill_node};
 use rank_core::{Ranked, sort};
 use root_search::Root;
-use skeleton_graph::{Graph, SkelNode};
+use skeleton_graph::SkelNode;
 use std::alloc::Global;
-use table_core::Task;
 use value_core::OutOfMemory;
+
+/// Why a search has no answers to give.
+#[derive(Clone, Copy, Debug, PartialEq, Eq)]
+pub enum SearchEnd {
+    /// The rows of the parts and the answers are together more than the task's budget.
+    OverBudget,
+    OutOfMemory,
+}
+
+impl From<OutOfMemory> for SearchEnd {
+    fn from(_: OutOfMemory) -> SearchEnd {
+        SearchEnd::OutOfMemory
+    }
+}
 
 // The row that is kept of a child.
 fn kept_row(rows: &[Option<Row>], child: Option<u32>) -> Option<&Row>
@@ -40,116 +53,145 @@ fn kept_below<'r>(rows: &'r [Option<Row>], node: &SkelNode) -> Below<'r>
     }
 }
 
-// The row of a node over those that are kept, where its parts' are.
+// The row of a node over those that are kept of its children.
 fn filled(
     alloc: Global,
-    task: &Task,
-    graph: &Graph,
+    plan: &Plan<'_>,
     rows: &[Option<Row>],
     number: u32,
-) -> Result<Option<Row>, OutOfMemory>
-    requires number { number < length graph.now.nodes }
-    requires kept { AreKept task.now graph.now.nodes rows.now }
-    ensures { IfOk result (λ row. IfSome row (IsRowOf task.now (tree_at (trees_of graph.now.nodes) number))) }
+) -> Result<Row, OutOfMemory>
+    requires number { number < length plan.now.graph.nodes }
+    requires kept { AreKept plan.now.task plan.now.graph.nodes rows.now }
+    requires children { ChildrenKept plan.now.graph.nodes rows.now number }
+    ensures { IfOk result (IsRowOf plan.now.task (tree_at (trees_of plan.now.graph.nodes) number)) }
 {
+    let graph = plan.graph();
     graph.is_ordered();
     let skeleton = graph.tree(alloc, number)?;
     let below = kept_below(rows, graph.node(number));
-    if !has_parts(&skeleton, &below) {
-        return Ok(None);
-    }
-    Ok(Some(fill_node(alloc, task, &skeleton, &below)?))
+    fill_node(alloc, plan.task(), &skeleton, &below)
 }
 
-// The row of a node, where it is a part of another.
-fn filled_part(
+// Appends the answers of a root over the rows that are kept of its children.
+fn push_found(
     alloc: Global,
-    task: &Task,
-    graph: &Graph,
+    plan: &Plan<'_>,
     rows: &[Option<Row>],
     number: u32,
-) -> Result<Option<Row>, OutOfMemory>
-    requires number { number < length graph.now.nodes }
-    requires kept { AreKept task.now graph.now.nodes rows.now }
-    ensures { IfOk result (λ row. IfSome row (IsRowOf task.now (tree_at (trees_of graph.now.nodes) number))) }
+    out: &mut Vec<Ranked>,
+) -> Result<(), OutOfMemory>
+    requires number { number < length plan.now.graph.nodes }
+    requires kept { AreKept plan.now.task plan.now.graph.nodes rows.now }
+    requires children { ChildrenKept plan.now.graph.nodes rows.now number }
+    ensures { OnOk result (ranked_queries out.new ≡ ranked_queries out.old ++ answers_at plan.now.task (trees_of plan.now.graph.nodes) number) }
 {
-    match graph.node(number).first_use {
-        Some(_) => filled(alloc, task, graph, rows, number),
-        None => Ok(None),
-    }
+    plan.is_planned();
+    let graph = plan.graph();
+    graph.is_ordered();
+    let skeleton = graph.tree(alloc, number)?;
+    let below = kept_below(rows, graph.node(number));
+    let root = Root {
+        task: plan.task(),
+        number,
+        skeleton: &skeleton,
+    };
+    root.push_answers(alloc, &below, out)
 }
 
-// What the weight of a row leaves of a budget: none where it is more.
-fn left_of(row: &Option<Row>, budget: u64) -> Option<u64> {
-    match row {
-        Some(row) => row.left_of(budget),
-        None => Some(budget),
-    }
+/// The rows of the parts of a search, by number, and what they leave of the budget.
+#[derive(Drop)]
+struct Parts {
+    rows: Vec<Option<Row>>,
+    left: u64,
 }
 
-// The rows of all parts, by number: none where they weigh more than the task's budget.
-fn part_rows(
-    alloc: Global,
-    task: &Task,
-    graph: &Graph,
-) -> Result<Option<Vec<Option<Row>>>, OutOfMemory>
-    ensures { IfOk result (λ rows. IfSome rows (λ rows. AreKept task.now graph.now.nodes rows.items)) }
+// So many places for rows, all of them empty.
+fn no_rows(alloc: Global, len: u32) -> Result<Vec<Option<Row>>, OutOfMemory>
+    ensures size { IfOk result (λ rows. length rows.items ≡ len) }
+    ensures none { IfOk result (λ rows. (k : ℕ) (row : Row) → ¬ (slice_get rows.items k ≡ Some (Some row))) }
 {
     let mut rows = Vec::new(alloc);
-    let mut budget = task.parts().budget;
-    for number in 0..graph.len() {
-        let row = filled_part(alloc, task, graph, rows.as_slice(), number)?;
-        match left_of(&row, budget) {
-            Some(left) => budget = left,
-            None => return Ok(None),
-        }
-        rows.push(row)?;
+    for _ in 0..len {
+        rows.push(None)?;
     }
-    Ok(Some(rows))
+    Ok(rows)
 }
 
-// The answers of all skeletons over the rows of the parts, in the grammar's order, where these are there.
-fn found_over(
+// Does a job that fills a part: keeps its row, and tells what its weight leaves of a budget. A job that searches a root does nothing.
+fn fill(
     alloc: Global,
-    task: &Task,
-    graph: &Graph,
-    rows: &[Option<Row>],
-) -> Result<Option<Vec<Ranked>>, OutOfMemory>
-    requires graph { trees_of graph.now.nodes ≡ skeletons task.now }
-    requires kept { AreKept task.now graph.now.nodes rows.now }
-    ensures { IfOk result (λ list. IfSome list (λ list. ranked_queries list ≡ flat_map (root_answers task.now) (enumerate_from 0 (trees_of graph.now.nodes)))) }
+    plan: &Plan<'_>,
+    job: Job,
+    rows: &mut Vec<Option<Row>>,
+    budget: u64,
+) -> Result<Option<u64>, OutOfMemory>
+    requires node { node_of job < length plan.now.graph.nodes }
+    requires size { length rows.old.items ≡ length plan.now.graph.nodes }
+    requires kept { AreKept plan.now.task plan.now.graph.nodes rows.old.items }
+    requires children { ChildrenKept plan.now.graph.nodes rows.old.items (node_of job) }
+    ensures left { IfOk result (IsLeft budget (part_cost plan.now.task (trees_of plan.now.graph.nodes) job)) }
+    ensures size { OnOk result (length rows.new.items ≡ length rows.old.items) }
+    ensures kept { OnOk result (AreKept plan.now.task plan.now.graph.nodes rows.new.items) }
+    ensures still { OnOk result ((k : ℕ) → IsKept rows.old.items k → IsKept rows.new.items k) }
+    ensures filled { OnOk result (FilledAreKept (job ∷ []) rows.new.items) }
 {
-    graph.is_ordered();
-    let mut out = Vec::new(alloc);
-    for number in 0..graph.len() {
-        let skeleton = graph.tree(alloc, number)?;
-        let below = kept_below(rows, graph.node(number));
-        if !has_parts(&skeleton, &below) {
-            return Ok(None);
-        }
-        let root = Root {
-            task,
-            number,
-            skeleton: &skeleton,
-        };
-        root.push_answers(alloc, &below, &mut out)?;
-    }
-    Ok(Some(out))
+    let Job::Inner(number) = job else {
+        return Ok(Some(budget));
+    };
+    let row = filled(alloc, plan, rows.as_slice(), number)?;
+    let left = row.left_of(budget);
+    rows[number as usize] = Some(row);
+    Ok(left)
 }
 
-/// The answers of a task over the graph of its skeletons, best first. Each part is filled once, for all skeletons that have it.
-///
-/// None where the rows of the parts weigh more than the task's budget.
-pub fn search(alloc: Global, task: &Task, graph: &Graph) -> Result<Option<Vec<Ranked>>, OutOfMemory>
-    requires { trees_of graph.now.nodes ≡ skeletons task.now }
-    ensures { IfOk result (λ list. IfSome list (λ list. map ranked_query list.items ≡ answers task.now)) }
+// The rows of all parts of a plan.
+fn parts(alloc: Global, plan: &Plan<'_>) -> Result<Parts, SearchEnd>
+    ensures kept { IfOk result (λ parts. AreKept plan.now.task plan.now.graph.nodes parts.rows.items) }
+    ensures all { IfOk result (λ parts. FilledAreKept plan.now.jobs parts.rows.items) }
+    ensures left { IfOk result (λ parts. parts.left + parts_weigh plan.now ≡ plan.now.task.budget) }
+    ensures over { result ≡ Err SearchEnd.OverBudget → plan.now.task.budget < parts_weigh plan.now }
 {
-    let Some(rows) = part_rows(alloc, task, graph)? else {
-        return Ok(None);
-    };
-    let Some(mut list) = found_over(alloc, task, graph, rows.as_slice())? else {
-        return Ok(None);
-    };
+    plan.is_planned();
+    let mut rows = no_rows(alloc, plan.graph().len())?;
+    let mut left = plan.task().parts().budget;
+    for job in plan.jobs() {
+        match fill(alloc, plan, *job, &mut rows, left)? {
+            Some(after) => left = after,
+            None => return Err(SearchEnd::OverBudget),
+        }
+    }
+    Ok(Parts { rows, left })
+}
+
+// The answers of the roots of a plan over the rows of its parts, in the grammar's order, where the budget has room for them.
+fn found(alloc: Global, plan: &Plan<'_>, parts: &Parts) -> Result<Vec<Ranked>, SearchEnd>
+    requires kept { AreKept plan.now.task plan.now.graph.nodes parts.now.rows.items }
+    requires all { FilledAreKept plan.now.jobs parts.now.rows.items }
+    ensures found { IfOk result (λ list. ranked_queries list ≡ plan_answers plan.now) }
+    ensures room { IfOk result (λ list. length (plan_answers plan.now) ≤ parts.now.left) }
+    ensures over { result ≡ Err SearchEnd.OverBudget → parts.now.left < length (plan_answers plan.now) }
+{
+    plan.is_planned();
+    let mut out = Vec::new(alloc);
+    for root in plan.roots() {
+        push_found(alloc, plan, parts.rows.as_slice(), *root, &mut out)?;
+        if parts.left < out.len() as u64 {
+            return Err(SearchEnd::OverBudget);
+        }
+    }
+    Ok(out)
+}
+
+/// The answers of the roots of a plan, best first. Each part is filled once, for all roots that have it.
+///
+/// `OverBudget` comes exactly where the rows of the parts and the answers are together more than the task's budget.
+pub fn search(alloc: Global, plan: &Plan<'_>) -> Result<Vec<Ranked>, SearchEnd>
+    ensures found { IfOk result (λ list. map ranked_query list.items ≡ ascending comes_before (plan_answers plan.now)) }
+    ensures within { IfOk result (λ list. plan_need plan.now ≤ plan.now.task.budget) }
+    ensures over { result ≡ Err SearchEnd.OverBudget → plan.now.task.budget < plan_need plan.now }
+{
+    let parts = parts(alloc, plan)?;
+    let mut list = found(alloc, plan, &parts)?;
     sort(&mut list)?;
-    Ok(Some(list))
+    Ok(list)
 }

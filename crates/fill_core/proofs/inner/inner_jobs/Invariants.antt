@@ -1,5 +1,5 @@
 use Rattle.std.proofs.Common.{◌≡◌, ◌++◌, drop}
-use Rattle.fill_core.specs.Plans.{inner_jobs}
+use Rattle.fill_core.specs.Marks.{inner_jobs}
 use Rattle.fill_core.proofs.inner.inner_jobs.Given as goal
 
 abbrev pub invariant-loop-k : goal.invariant-loop-k

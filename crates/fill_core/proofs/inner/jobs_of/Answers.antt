@@ -1,5 +1,5 @@
 use Rattle.std.proofs.Common.{◌≡◌, ◌++◌, length, map, ap, ◌∙◌, arith}
-use Rattle.fill_core.specs.Plans.{inner_jobs, marks_below}
+use Rattle.fill_core.specs.Marks.{inner_jobs, marks_below}
 use Rattle.fill_core.specs.declared.job.Job.TheVariants.{Root}
 use Rattle.fill_core.proofs.PlanLaws.{falls_of, marks_size, inner_listed}
 use Rattle.fill_core.proofs.inner.jobs_of.Goals as goal

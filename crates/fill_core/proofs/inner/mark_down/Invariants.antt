@@ -1,5 +1,5 @@
 use Rattle.std.proofs.Common.{◌≡◌, ◌≤◌, length}
-use Rattle.fill_core.specs.Plans.{marked_down}
+use Rattle.fill_core.specs.Marks.{marked_down}
 use Rattle.fill_core.proofs.inner.mark_down.Given as goal
 
 abbrev pub invariant-loop-k : goal.invariant-loop-k

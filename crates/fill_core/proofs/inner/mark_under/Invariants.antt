@@ -1,5 +1,5 @@
 use Rattle.std.proofs.Common.{◌≡◌, drop}
-use Rattle.fill_core.specs.Plans.{marked_under}
+use Rattle.fill_core.specs.Marks.{marked_under}
 use Rattle.fill_core.proofs.inner.mark_under.Given as goal
 
 abbrev pub invariant-loop-k : goal.invariant-loop-k
