@@ -27,7 +27,7 @@ abbrev pub Each : {A : Type 0} → (A → Type 0) → List A → Type 0
 Each P [] = Unit {0}
 Each P (x ∷ xs) = P x × Each P xs
 
-each-append : {A : Type 0} (P : A → Type 0) (xs ys : List A) → Each P xs → Each P ys → Each P (xs ++ ys)
+pub each-append : {A : Type 0} (P : A → Type 0) (xs ys : List A) → Each P xs → Each P ys → Each P (xs ++ ys)
 each-append P [] ys a b = b
 each-append P (x ∷ xs) ys a b = (a.0, each-append P xs ys a.1 b)
 
@@ -35,15 +35,15 @@ each_flat : {A B : Type 0} (P : B → Type 0) (Q : A → Type 0) (f : A → List
 each_flat P Q f give [] q = tt
 each_flat P Q f give (x ∷ xs) q = each-append P (f x) (flat_map f xs) (give x q.0) (each_flat P Q f give xs q.1)
 
-each_flat_all : {A B : Type 0} (P : B → Type 0) (f : A → List B) → ((x : A) → Each P (f x)) → (xs : List A) → Each P (flat_map f xs)
+pub each_flat_all : {A B : Type 0} (P : B → Type 0) (f : A → List B) → ((x : A) → Each P (f x)) → (xs : List A) → Each P (flat_map f xs)
 each_flat_all P f give [] = tt
 each_flat_all P f give (x ∷ xs) = each-append P (f x) (flat_map f xs) (give x) (each_flat_all P f give xs)
 
-each_map : {A B : Type 0} (P : B → Type 0) (f : A → B) → ((x : A) → P (f x)) → (xs : List A) → Each P (map f xs)
+pub each_map : {A B : Type 0} (P : B → Type 0) (f : A → B) → ((x : A) → P (f x)) → (xs : List A) → Each P (map f xs)
 each_map P f give [] = tt
 each_map P f give (x ∷ xs) = (give x, each_map P f give xs)
 
-each_single : {A : Type 0} (P : A → Type 0) (b : Bool) (x : A) → P x → Each P (if b then x ∷ [] else [])
+pub each_single : {A : Type 0} (P : A → Type 0) (b : Bool) (x : A) → P x → Each P (if b then x ∷ [] else [])
 each_single P true x p = (p, tt)
 each_single P false x p = tt
 

@@ -18,6 +18,7 @@ use Rattle.skeleton_graph.proofs.BoundLaws.{PartsFirst, children_first}
 use Rattle.skeleton_graph.proofs.ChainLaws.{Exact, exact_is, chains_are, older_are}
 use Rattle.skeleton_graph.proofs.OrderLaws.{lefts_first, rights_first}
 use Rattle.skeleton_graph.proofs.PlacedLaws.{count_is}
+use Rattle.skeleton_graph.proofs.ShapeLaws.{nodes_have}
 use Rattle.skeleton_graph.proofs.SimLaws.{same_levels}
 
 -- how many skeletons there are
@@ -55,4 +56,5 @@ is_graph task l nodes types is few made typed =
       rights = rw made (rights_first parts order);
       older = older_are nodes exact;
       chains = chains_are nodes exact;
+      shaped = rw (made ∙ ap (λ x. linked_all [] (parts_of (all_of x.levels))) is) (nodes_have task task.ops);
     }

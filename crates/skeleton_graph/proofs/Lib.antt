@@ -7,5 +7,7 @@ pub mod ListLaws
 pub mod OrderLaws
 pub mod PlacedLaws
 pub mod RangeLaws
+pub mod ShapeLaws
 pub mod SimLaws
 pub mod TreeLaws
+pub mod UseLaws

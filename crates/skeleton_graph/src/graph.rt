@@ -37,16 +37,25 @@ impl Model for Graph {
 }
 
 impl Graph {
-    ghost use Rattle.std.specs.Prelude.{[], Some, slice_get, ◌↔◌, IsTrue};
+    ghost use Rattle.std.specs.Prelude.{[], true, Some, is_some, slice_get, ◌↔◌, IsTrue};
     ghost use Rattle.query_core.specs.View.{tree};
-    ghost use Rattle.skeleton_graph.specs.Nodes.{uses_of, user_and_side, above_of};
+    ghost use Rattle.skeleton_graph.specs.Nodes.{left_of, right_of, first_use_of, uses_of, user_and_side, above_of};
     ghost use Rattle.skeleton_graph.specs.GraphData.{IsGraph};
 
-    /// The law of every graph: children have lower numbers than their users, and the chains have the uses.
+    /// The law of every graph: children have lower numbers than their users, the chains have the uses, and each node has the children of its kind.
     pub fn is_ordered(&self)
         ensures { IsGraph self.now.nodes self.now.types }
     {
         let _ = &self.nodes;
+    }
+
+    /// The law of every graph: a node that is the child of another is used.
+    #[tactic(auto, using(crate::proofs::UseLaws::left_used, crate::proofs::UseLaws::right_used))]
+    pub fn children_are_used(&self)
+        ensures lefts { (k child : ℕ) → left_of self.now.nodes k ≡ Some child → is_some (first_use_of self.now.nodes child) ≡ true }
+        ensures rights { (k child : ℕ) → right_of self.now.nodes k ≡ Some child → is_some (first_use_of self.now.nodes child) ≡ true }
+    {
+        self.is_ordered();
     }
 
     /// How many nodes there are.
