@@ -14,25 +14,31 @@ use Rattle.fill_core.specs.declared.job.Job.TheVariants.{Inner, Root}
 use Rattle.fill_core.specs.Plans.{is_inner, inner_of, jobs_of, node_of, PartsComeFirst}
 use Rattle.fill_core.proofs.PlanLaws.{Falls, children_inner, contains_in, in_contains}
 
+-- a number of a list stands before another, wherever that stands
+abbrev Again : List ℕ → ℕ → ℕ → Type 0
+Again xs k lower = (j : ℕ) → slice_get xs j ≡ Some k → In lower xs → In lower (take j xs)
+
 -- of a range's numbers that pass a test, each lower one stands before a number
 lower_first : (p : ℕ → Bool) (at n i k lower : ℕ) → slice_get (filter p (range_with_len at n)) i ≡ Some k → In lower (filter p (range_with_len at n)) → lower < k → In lower (take i (filter p (range_with_len at n)))
 lower_first p at zero i k lower is there less = absurd there
-lower_first p at (suc n) i k lower is there less = elim (cases_Bool (p at)) [ inl passes ↦ kept passes | inr fails ↦ left_out fails ]
+lower_first p at (suc n) i k lower is there less =
+    let again : Again (filter p (range_with_len (at + 1) n)) k lower = λ j is_later later. lower_first p (at + 1) n j k lower is_later later less in
+    elim (cases_Bool (p at)) [ inl passes ↦ kept passes again | inr fails ↦ left_out fails again ]
   where
     rest : List ℕ
     rest = filter p (range_with_len (at + 1) n)
 
-    from : (j : ℕ) → slice_get (at ∷ rest) j ≡ Some k → In lower (at ∷ rest) → In lower (take j (at ∷ rest))
-    from zero is_first (inl e) = absurd (let same = same_Some at k is_first in omega (arith, same, e, less))
-    from zero is_first (inr later) = absurd (let same = same_Some at k is_first in let low = in_range (at + 1) n lower (in_filter p lower (range_with_len (at + 1) n) later).0 in omega (arith, same, low.0, less))
-    from (suc j) is_later (inl e) = inl e
-    from (suc j) is_later (inr later) = inr (lower_first p (at + 1) n j k lower is_later later less)
+    from : (j : ℕ) → Again rest k lower → slice_get (at ∷ rest) j ≡ Some k → In lower (at ∷ rest) → In lower (take j (at ∷ rest))
+    from zero again is_first (inl e) = absurd (let same = same_Some at k is_first in omega (arith, same, e, less))
+    from zero again is_first (inr later) = absurd (let same = same_Some at k is_first in let low = in_range (at + 1) n lower (in_filter p lower (range_with_len (at + 1) n) later).0 in omega (arith, same, low.0, less))
+    from (suc j) again is_later (inl e) = inl e
+    from (suc j) again is_later (inr later) = inr (again j is_later later)
 
-    kept : p at ≡ true → In lower (take i (filter p (range_with_len at (suc n))))
-    kept passes = rw passes (from i (rw passes at is) (rw passes at there))
+    kept : p at ≡ true → Again rest k lower → In lower (take i (filter p (range_with_len at (suc n))))
+    kept passes again = rw passes (from i again (rw passes at is) (rw passes at there))
 
-    left_out : p at ≡ false → In lower (take i (filter p (range_with_len at (suc n))))
-    left_out fails = rw fails (lower_first p (at + 1) n i k lower (rw fails at is) (rw fails at there) less)
+    left_out : p at ≡ false → Again rest k lower → In lower (take i (filter p (range_with_len at (suc n))))
+    left_out fails again = rw fails (again i (rw fails at is) (rw fails at there))
 
 -- what is taken of a list is taken of a longer one
 take_longer : {X : Type 0} (x : X) (xs ys : List X) (i : ℕ) → In x (take i xs) → In x (take i (xs ++ ys))

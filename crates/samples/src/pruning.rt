@@ -8,11 +8,10 @@ use crate::fault::Failed;
 use crate::make::{Shape, Tree, node, task};
 use crate::show::Abstract;
 use fill_core::Plan;
-use over_eval::{AbsRow, can_serve_by, over};
+use over_eval::{AbsRow, live, over, serves};
 use predicate_core::Pred;
-use query_core::{Agg, Node, Pairing};
+use query_core::{Agg, Node, Pairing, node_types};
 use skeleton_graph::{Graph, GraphFault, build};
-use sqlite_items::Items;
 use std::alloc::Global;
 use table_core::Task;
 
@@ -27,8 +26,11 @@ const SHAPE: Shape = Shape {
     ..Shape::LEAST
 };
 
-const ONE_FILTER: Shape = Shape {
-    inputs: &[("t", "a#\n1\n2")],
+// Its base, and the filter over that, are live.
+const TWO_LIVE: Shape = Shape {
+    inputs: &[("t", "id v#\na 1\na 2")],
+    output: "id\na",
+    constants: "1",
     numbers: [1, 1, 1, 25, 1],
     ..Shape::LEAST
 };
@@ -59,15 +61,15 @@ fn listed(rt: &impl Print, rows: &[AbsRow]) -> Result<(), Failed> {
     Ok(())
 }
 
-// The abstract rows of a tree, and whether their first column serves the output.
+// The abstract rows of a tree, and whether they can serve the output.
 fn shown(rt: &impl Print, alloc: Global, task: &Task, tree: &Node) -> Result<(), Failed> {
     let Some(rows) = over(alloc, task.parts(), tree)? else {
         println!(rt; "never")?;
         return Ok(());
     };
-    let maps = [Items::from_slice(alloc, &[0usize])?];
     listed(rt, rows.as_slice())?;
-    let serves = can_serve_by(rows.as_slice(), task.output().tuples(), &maps);
+    let types = node_types(alloc, task.parts().inputs.as_slice(), tree)?;
+    let serves = serves(alloc, types.as_slice(), rows.as_slice(), task.output())?;
     println!(rt; "{serves}")?;
     Ok(())
 }
@@ -79,14 +81,11 @@ fn trees(rt: &impl Print, alloc: Global, task: &Task) -> Result<(), Failed> {
     Ok(())
 }
 
-// The jobs of a search of the last node of a graph as its only root.
+// The jobs of a search of the live skeletons.
 fn planned(rt: &impl Print, alloc: Global, task: &Task, graph: Graph) -> Result<(), Failed>
     requires { trees_of graph.nodes ≡ skeletons task.now }
 {
-    let mut roots = Vec::new(alloc);
-    if !graph.is_empty() {
-        roots.push(graph.len() - 1)?;
-    }
+    let roots = live(alloc, task, &graph)?;
     let plan = Plan::new(alloc, task, graph, roots)?;
     println!(rt; "{:?}", plan.jobs())?;
     Ok(())
@@ -103,5 +102,5 @@ fn jobs(rt: &impl Print, alloc: Global, task: &Task) -> Result<(), Failed> {
 
 pub fn samples(rt: &impl Print, alloc: Global) -> Result<(), Failed> {
     trees(rt, alloc, &task(alloc, &SHAPE)?)?;
-    jobs(rt, alloc, &task(alloc, &ONE_FILTER)?)
+    jobs(rt, alloc, &task(alloc, &TWO_LIVE)?)
 }

@@ -24,6 +24,16 @@ const FILES: Files = &[
         "none.toml",
         "ops = 0\n[[input]]\nname = \"t\"\nfile = \"t.csv\"\n[output]\nfile = \"out.csv\"\n",
     ),
+    ("two.csv", "id,v\na,1\na,2\n"),
+    ("one.csv", "id\na\n"),
+    (
+        "least.toml",
+        "constants = [1]\nops = 1\nleaves = 1\natoms = 1\nbudget = 6\n[[input]]\nname = \"t\"\nfile = \"two.csv\"\n[output]\nfile = \"one.csv\"\n",
+    ),
+    (
+        "small.toml",
+        "constants = [1]\nops = 1\nleaves = 1\natoms = 1\nbudget = 5\n[[input]]\nname = \"t\"\nfile = \"two.csv\"\n[output]\nfile = \"one.csv\"\n",
+    ),
     (
         "wrong.toml",
         "ops = 5\n[[input]]\nname = \"t\"\nfile = \"t.csv\"\n[output]\nfile = \"out.csv\"\n",
@@ -105,6 +115,10 @@ const RUNS: &[Run] = &[
         words: &["run", "many.toml"],
         ..LISTED
     },
+    Run {
+        words: &["run", "small.toml"],
+        ..LISTED
+    },
     Run { read: 1, ..LISTED },
     Run { read: 2, ..LISTED },
     Run { read: 3, ..LISTED },
@@ -133,6 +147,10 @@ const WORDS: &[&[&str]] = &[
     &["run", "--workers", "16", "t.toml"],
     &["run", "--workers", "4", "none.toml"],
     &["plain", "none.toml"],
+    &["run", "least.toml"],
+    &["run", "small.toml"],
+    &["run", "small.toml", "--workers", "16"],
+    &["plain", "small.toml"],
     &[],
     &["run"],
     &["plain"],
