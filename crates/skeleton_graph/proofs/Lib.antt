@@ -1,3 +1,5 @@
+pub mod AboveLaws
+pub mod BelowLaws
 pub mod BoundLaws
 pub mod ChainLaws
 pub mod GraphLaws
@@ -7,6 +9,7 @@ pub mod ListLaws
 pub mod OrderLaws
 pub mod PlacedLaws
 pub mod RangeLaws
+pub mod SameLaws
 pub mod ShapeLaws
 pub mod SimLaws
 pub mod TreeLaws

@@ -58,7 +58,7 @@ node_made trees (n ∷ nodes) (suc k) node is a b =
     ∙ node_made (trees ++ made ∷ []) nodes k node is (rw place a) (rw place b)
 
 -- a fact of a side of a node, from the same of its number
-side_below : (side : SkelNode → Option ℕ) (nodes : List SkelNode) (k : ℕ) (node : SkelNode) → Descends (λ n. option_and_then side (slice_get nodes n)) → slice_get nodes k ≡ Some node → Below k (side node)
+pub side_below : (side : SkelNode → Option ℕ) (nodes : List SkelNode) (k : ℕ) (node : SkelNode) → Descends (λ n. option_and_then side (slice_get nodes n)) → slice_get nodes k ≡ Some node → Below k (side node)
 side_below side nodes k node down is = rw (ap (option_and_then side) is) at (below_is (λ n. option_and_then side (slice_get nodes n)) down k)
 
 -- the tree of a node

@@ -5,3 +5,4 @@ pub mod Seen
 pub mod View
 pub mod Links
 pub mod Listing
+pub mod Below

@@ -1,5 +1,6 @@
 -- The trees of the nodes of a graph, the uses of a node, and the nodes above it.
 use Rattle.std.specs.Prelude.{ℕ, zero, suc, ◌+◌, ◌*◌, ◌/◌, ◌%◌, ◌==◌, Bool, false, not, ◌&&◌, ◌||◌, List, [], ◌∷◌, ◌++◌, length, slice_get, unwrap_or, Option, Some, None, option_and_then, if◌then◌else◌}
+use Rattle.std.specs.List.{list_any}
 use Rattle.predicate_core.specs.declared.pred.Pred.TheVariants.{Always}
 use Rattle.query_core.specs.Tree.{Tree}
 use Rattle.query_core.specs.Tree as t
@@ -106,3 +107,7 @@ marked_but k number (mark ∷ marks) = (if mark && not (number == k) then number
 -- the numbers of the nodes that have this one below them, ascending, without its own
 abbrev pub above_of : List SkelNode → ℕ → List ℕ
 above_of nodes k = marked_but k 0 (marks_after k [] nodes)
+
+-- whether a number is one of these
+abbrev pub is_among : List ℕ → ℕ → Bool
+is_among numbers number = list_any (λ n. n == number) numbers

@@ -2,6 +2,7 @@
 #![tactic(auto)]
 
 mod above;
+mod below;
 mod fault;
 mod graph;
 mod keys;
@@ -15,6 +16,7 @@ mod room;
 mod tree;
 mod uses;
 
+pub use below::above_has_below;
 pub use fault::GraphFault;
 pub use graph::{Graph, build};
 pub use node::{Kind, SkelNode};
