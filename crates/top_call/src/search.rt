@@ -1,6 +1,4 @@
 ghost use Rattle.std.specs.Prelude.{◌≡◌, ◌≤◌, ◌<◌, ◌+◌, ◌++◌, ◌∷◌, [], ℕ, length, map, slice_get, option_copied, Some, Err, IfOk, OnOk};
-ghost use Rattle.fill_core.specs.declared.row.Row.{Row};
-ghost use Rattle.top_call.specs.declared.search.SearchEnd.TheVariants as SearchEnd;
 ghost use Rattle.query_core.specs.Answers.{ascending, comes_before};
 ghost use Rattle.rank_core.specs.View.{ranked_query, ranked_queries};
 ghost use Rattle.fill_core.specs.Plans.{node_of};
@@ -24,7 +22,12 @@ pub enum SearchEnd {
 }
 
 impl From<OutOfMemory> for SearchEnd {
-    fn from(_: OutOfMemory) -> SearchEnd {
+    ghost use Rattle.std.specs.Prelude.{◌≡◌};
+    ghost use Rattle.top_call.specs.declared.search.SearchEnd.TheVariants as end;
+
+    ghost from_gives = { λ _ given. given ≡ end.OutOfMemory };
+
+    fn from(_fault: OutOfMemory) -> SearchEnd {
         SearchEnd::OutOfMemory
     }
 }
@@ -100,7 +103,7 @@ fn push_found(
 
 /// The rows of the parts of a search, by number, and what they leave of the budget.
 #[derive(Drop)]
-struct Parts {
+struct PartRows {
     rows: Vec<Option<Row>>,
     left: u64,
 }
@@ -145,7 +148,7 @@ fn fill(
 }
 
 // The rows of all parts of a plan.
-fn parts(alloc: Global, plan: &Plan<'_>) -> Result<Parts, SearchEnd>
+fn fill_parts(alloc: Global, plan: &Plan<'_>) -> Result<PartRows, SearchEnd>
     ensures kept { IfOk result (λ parts. AreKept plan.now.task plan.now.graph.nodes parts.rows.items) }
     ensures all { IfOk result (λ parts. FilledAreKept plan.now.jobs parts.rows.items) }
     ensures left { IfOk result (λ parts. parts.left + parts_weigh plan.now ≡ plan.now.task.budget) }
@@ -160,11 +163,11 @@ fn parts(alloc: Global, plan: &Plan<'_>) -> Result<Parts, SearchEnd>
             None => return Err(SearchEnd::OverBudget),
         }
     }
-    Ok(Parts { rows, left })
+    Ok(PartRows { rows, left })
 }
 
 // The answers of the roots of a plan over the rows of its parts, in the grammar's order, where the budget has room for them.
-fn found(alloc: Global, plan: &Plan<'_>, parts: &Parts) -> Result<Vec<Ranked>, SearchEnd>
+fn found(alloc: Global, plan: &Plan<'_>, parts: &PartRows) -> Result<Vec<Ranked>, SearchEnd>
     requires kept { AreKept plan.now.task plan.now.graph.nodes parts.now.rows.items }
     requires all { FilledAreKept plan.now.jobs parts.now.rows.items }
     ensures found { IfOk result (λ list. ranked_queries list ≡ plan_answers plan.now) }
@@ -190,7 +193,7 @@ pub fn search(alloc: Global, plan: &Plan<'_>) -> Result<Vec<Ranked>, SearchEnd>
     ensures within { IfOk result (λ list. plan_need plan.now ≤ plan.now.task.budget) }
     ensures over { result ≡ Err SearchEnd.OverBudget → plan.now.task.budget < plan_need plan.now }
 {
-    let parts = parts(alloc, plan)?;
+    let parts = fill_parts(alloc, plan)?;
     let mut list = found(alloc, plan, &parts)?;
     sort(&mut list)?;
     Ok(list)
