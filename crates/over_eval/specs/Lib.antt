@@ -1,4 +1,5 @@
 pub mod Laws
 pub mod Live
 pub mod Over
+pub mod Parts
 pub mod Placed
