@@ -113,11 +113,8 @@ pub fn live(alloc: Global, task: &Task, graph: &Graph) -> Result<Vec<u32>, OutOf
         let node = graph.node(number);
         let skeleton = graph.tree(alloc, number)?;
         let rows = over_kept(alloc, task, &skeleton, node, kept.as_slice())?;
-        push_if(
-            &mut numbers,
-            number,
-            is_live(alloc, task, &skeleton, &rows)?,
-        )?;
+        let lives = is_live(alloc, task, &skeleton, &rows)?;
+        push_if(&mut numbers, number, lives)?;
         kept.push(rows_to_keep(node, rows))?;
     }
     Ok(numbers)

@@ -34,10 +34,10 @@ loop-number-preserved c =
     let numbers = c.loop-number.numbers.items in
     let skeleton = tree c.in_ok-skeleton.skeleton in
     let is_skeleton : skeleton ≡ tree_at (trees_of nodes) number = ap (λ o. unwrap_or o (t.base 0)) (sym c.in_ok-skeleton.ensures) in
-    let is_live : c.in_ok-is_live.field-0 ≡ live task skeleton =
-    c.in_ok-is_live.ensures ∙ ap (serves_by (maps (columns task.inputs skeleton) (types_of task.output)) task.output.rows) c.in_ok-rows.ensures in
+    let lives : c.in_ok-lives.lives ≡ live task skeleton =
+    c.in_ok-lives.ensures ∙ ap (serves_by (maps (columns task.inputs skeleton) (types_of task.output)) task.output.rows) c.in_ok-rows.ensures in
     let pushed : c.push_if.new.numbers.items ≡ numbers ++ live_one task number skeleton =
-    c.in_ok-push_if.ensures ∙ ap (λ (b : Bool). numbers ++ (if b then number ∷ [] else [])) is_live in
+    c.in_ok-push_if.ensures ∙ ap (λ (b : Bool). numbers ++ (if b then number ∷ [] else [])) lives in
     let more : AreKept task nodes (old ++ c.rows_to_keep.result ∷ []) =
     kept_more task nodes old number c.node-node.result.now c.rows_to_keep.result c.loop-number.invariant.kept c.loop-number.invariant.size c.node-node.ensures
     (λ used. c.rows_to_keep.ensures used ∙ (c.in_ok-rows.ensures ∙ ap (over task) is_skeleton)) in
