@@ -2,8 +2,10 @@ pub mod AggregateLaws
 pub mod AllLaws
 pub mod CoverLaws
 pub mod GroupLaws
+pub mod KeptLaws
 pub mod LiveLaws
 pub mod NeverLaws
+pub mod NumberLaws
 pub mod PlacedLaws
 pub mod RowLaws
 pub mod StepLaws

@@ -1,5 +1,5 @@
 -- Laws of abstract rows: no answer is lost where only live skeletons are filled.
-use Rattle.std.specs.Prelude.{◌≡◌, ℕ, true, false, ◌⊎◌, ◌↔◌, List, [], flat_map, Some, None, Contains}
+use Rattle.std.specs.Prelude.{◌≡◌, ℕ, true, false, ◌⊎◌, ◌↔◌, List, [], map, flat_map, Some, None, Contains}
 use Rattle.std.specs.Prelude.{filter as list_filter}
 use Rattle.std.specs.List.{enumerate_from}
 use Rattle.table_core.specs.Rows.{Row}
@@ -34,6 +34,10 @@ OnlyLiveAnswer task = (n : ℕ) (skeleton : Tree) → live task skeleton ≡ fal
 -- the skeletons that are live, each with its number
 abbrev pub live_skeletons : TaskParts → List (ℕ × Tree)
 live_skeletons task = list_filter (λ s. live task s.1) (enumerate_from 0 (skeletons task))
+
+-- the numbers of the live skeletons, ascending
+abbrev pub live_numbers : TaskParts → List ℕ
+live_numbers task = map (λ s. s.0) (live_skeletons task)
 
 -- the answers of a task are those of its live skeletons, in order
 abbrev pub AnswersOfLive : TaskParts → Type 0

@@ -1,12 +1,13 @@
-ghost use Rattle.std.specs.Prelude.{◌≡◌, ◌++◌, map, option_map, IfOk};
+ghost use Rattle.std.specs.Prelude.{◌≡◌, ◌++◌, map, option_map, option_copied, IfOk};
 ghost use Rattle.query_core.specs.View.{tree};
 ghost use Rattle.query_core.specs.Meaning.{input_at};
 ghost use Rattle.over_eval.specs.Over.{exact_row, over_pair, groups_over, over_both, exact};
 
+use crate::below::OverBelow;
 use crate::groups::groups_over;
 use crate::pairs::over_pair;
 use crate::row::AbsRow;
-use crate::rows::exact_rows;
+use crate::rows::{copied_rows, exact_rows};
 use bag_eval::node_rows;
 use query_core::{Agg, Node, Pairing};
 use sqlite_items::Items;
@@ -43,19 +44,31 @@ pub(crate) fn exact(
     }
 }
 
+// The rows of a part again.
+pub(crate) fn copied_part(
+    alloc: Global,
+    below: &OverBelow<'_>,
+) -> Result<Option<Items<AbsRow>>, OutOfMemory>
+    ensures { IfOk result (λ out. out ≡ option_copied below.now.left) }
+{
+    match below.left {
+        Some(rows) => Ok(Some(copied_rows(alloc, rows)?)),
+        None => Ok(None),
+    }
+}
+
 // The rows of a pair of two parts that may never have rows; the right one has so many columns.
 pub(crate) fn paired(
     alloc: Global,
     kind: Pairing,
     width: usize,
-    lefts: Option<Items<AbsRow>>,
-    rights: Option<Items<AbsRow>>,
+    below: &OverBelow<'_>,
 ) -> Result<Option<Items<AbsRow>>, OutOfMemory>
-    ensures { IfOk result (λ out. out ≡ over_both (over_pair kind width) lefts rights) }
+    ensures { IfOk result (λ out. out ≡ over_both (over_pair kind width) (option_copied below.now.left) (option_copied below.now.right)) }
 {
-    match (lefts, rights) {
+    match (below.left, below.right) {
         (Some(lefts), Some(rights)) => {
-            let pairs = over_pair(alloc, kind, width, lefts.as_slice(), rights.as_slice())?;
+            let pairs = over_pair(alloc, kind, width, lefts, rights)?;
             Ok(Some(pairs))
         }
         _ => Ok(None),
@@ -67,27 +80,28 @@ pub(crate) fn grouped(
     alloc: Global,
     keys: &[usize],
     agg: &Agg,
-    rows: Option<Items<AbsRow>>,
+    below: &OverBelow<'_>,
 ) -> Result<Option<Items<AbsRow>>, OutOfMemory>
-    ensures { IfOk result (λ out. out ≡ option_map (groups_over keys.now agg.now) rows) }
+    ensures { IfOk result (λ out. out ≡ option_map (groups_over keys.now agg.now) (option_copied below.now.left)) }
 {
-    match rows {
-        Some(rows) => Ok(Some(groups_over(alloc, keys, agg, rows.as_slice())?)),
+    match below.left {
+        Some(rows) => Ok(Some(groups_over(alloc, keys, agg, rows)?)),
         None => Ok(None),
     }
 }
 
 // The rows of two parts together, which may never have rows.
 pub(crate) fn united(
-    lefts: Option<Items<AbsRow>>,
-    rights: Option<Items<AbsRow>>,
+    alloc: Global,
+    below: &OverBelow<'_>,
 ) -> Result<Option<Items<AbsRow>>, OutOfMemory>
-    ensures { IfOk result (λ out. out ≡ over_both (λ lefts rights. lefts ++ rights) lefts rights) }
+    ensures { IfOk result (λ out. out ≡ over_both (λ lefts rights. lefts ++ rights) (option_copied below.now.left) (option_copied below.now.right)) }
 {
-    match (lefts, rights) {
-        (Some(mut lefts), Some(rights)) => {
-            lefts.append(rights)?;
-            Ok(Some(lefts))
+    match (below.left, below.right) {
+        (Some(lefts), Some(rights)) => {
+            let mut rows = copied_rows(alloc, lefts)?;
+            rows.append(copied_rows(alloc, rights)?)?;
+            Ok(Some(rows))
         }
         _ => Ok(None),
     }

@@ -31,6 +31,17 @@ pub fn exact_rows(alloc: Global, rows: &[Tuple]) -> Result<Items<AbsRow>, OutOfM
     Ok(out)
 }
 
+/// Copies of these rows.
+pub fn copied_rows(alloc: Global, rows: &[AbsRow]) -> Result<Items<AbsRow>, OutOfMemory>
+    ensures { IfOk result (λ out. out ≡ rows.now) }
+{
+    let mut out = Items::new(alloc);
+    for row in rows {
+        out.push(row.copy(alloc)?)?;
+    }
+    Ok(out)
+}
+
 /// A copy of the cell of a column, a known NULL where there is none.
 pub fn cell_at(alloc: Global, cells: &[AbsCell], at: usize) -> Result<AbsCell, OutOfMemory>
     ensures { IfOk result (λ cell. cell ≡ cell_at cells.now at) }
