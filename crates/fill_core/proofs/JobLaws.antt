@@ -7,12 +7,14 @@ use Rattle.std.proofs.lemmas.List.{take_all, length-map}
 use Rattle.std.proofs.lemmas.List.Elements.{All-nil, All-cons, All-append, All-head, All-tail}
 use Rattle.std.proofs.lemmas.Option.{none-some, same_Some}
 use Rattle.predicate_core.proofs.OnceLists.{In, in_at, at_in}
+use Rattle.query_laws.proofs.ListLaws.{contains_in, in_contains}
 use Rattle.query_laws.proofs.MemberLaws.{map_in, in_filter, in_range}
 use Rattle.skeleton_graph.specs.declared.node.SkelNode.{SkelNode}
+use Rattle.skeleton_graph.proofs.AboveLaws.{Falls}
 use Rattle.fill_core.specs.declared.job.Job.{Job}
 use Rattle.fill_core.specs.declared.job.Job.TheVariants.{Inner, Root}
 use Rattle.fill_core.specs.Plans.{is_inner, inner_of, jobs_of, node_of, PartsComeFirst}
-use Rattle.fill_core.proofs.PlanLaws.{Falls, children_inner, contains_in, in_contains}
+use Rattle.fill_core.proofs.PlanLaws.{children_inner}
 
 -- a number of a list stands before another, wherever that stands
 abbrev Again : List ℕ → ℕ → ℕ → Type 0

@@ -1,18 +1,14 @@
 -- Plans of a search: which nodes of the graph of skeletons are filled, and which are searched as roots.
-use Rattle.std.specs.Prelude.{◌≡◌, ℕ, ◌<◌, ◌≤◌, ◌==◌, ◌⊎◌, Bool, List, ◌++◌, All, Contains, filter, length, map, slice_get, take, Some}
+use Rattle.std.specs.Prelude.{◌≡◌, ℕ, ◌<◌, ◌≤◌, ◌⊎◌, Bool, List, ◌++◌, All, Contains, filter, length, map, slice_get, take, Some}
 use Rattle.std.specs.List.{list_any, range_with_len}
 use Rattle.std.specs.List.Sorted.{IsStrictlyIncreasing}
 use Rattle.table_core.specs.declared.task.TaskParts.{TaskParts}
 use Rattle.query_core.specs.Grammar.{skeletons}
 use Rattle.skeleton_graph.specs.declared.node.SkelNode.{SkelNode}
-use Rattle.skeleton_graph.specs.Nodes.{above_of, left_of, right_of, trees_of}
+use Rattle.skeleton_graph.specs.Nodes.{above_of, is_among, left_of, right_of, trees_of}
 use Rattle.skeleton_graph.specs.GraphData.{GraphData, IsGraph}
 use Rattle.fill_core.specs.declared.job.Job.{Job}
 use Rattle.fill_core.specs.declared.job.Job.TheVariants.{Inner, Root}
-
--- whether a number is one of these
-abbrev pub is_among : List ℕ → ℕ → Bool
-is_among numbers number = list_any (λ n. n == number) numbers
 
 -- whether a node is inner: some root has it below itself
 abbrev pub is_inner : List SkelNode → List ℕ → ℕ → Bool

@@ -17,10 +17,10 @@ use Rattle.query_core.specs.Grammar.{skeletons, numbered}
 use Rattle.query_core.specs.Answers.{RankedQuery, placed, ascending, comes_before, is_answer, ranked, found, answers}
 use Rattle.query_laws.proofs.MemberLaws.{in_filter}
 use Rattle.skeleton_graph.specs.Below.{has_below}
-use Rattle.skeleton_graph.specs.Nodes.{above_of, tree_at, trees_of}
+use Rattle.skeleton_graph.specs.Nodes.{above_of, is_among, tree_at, trees_of}
 use Rattle.skeleton_graph.specs.declared.node.SkelNode.{SkelNode}
 use Rattle.skeleton_graph.proofs.TreeLaws.{trees_size}
-use Rattle.fill_core.specs.Plans.{PlanData, is_among, is_inner, inner_of, jobs_of}
+use Rattle.fill_core.specs.Plans.{PlanData, is_inner, inner_of, jobs_of}
 use Rattle.fill_core.specs.View.{weight_of}
 use Rattle.fill_core.specs.declared.job.Job.{Job}
 use Rattle.fill_core.specs.declared.job.Job.TheVariants.{Inner, Root}

@@ -9,6 +9,7 @@ use Rattle.std.proofs.lemmas.Option.{same_Some, none-some, slice_get_within, get
 use Rattle.value_core.specs.declared.value.ColType.{ColType}
 use Rattle.predicate_core.proofs.OnceLists.{In, in_append}
 use Rattle.table_core.specs.declared.task.TaskParts.{TaskParts}
+use Rattle.query_laws.proofs.ListLaws.{contains_in, in_contains}
 use Rattle.query_core.specs.Tree.{Tree}
 use Rattle.query_core.specs.Tree as t
 use Rattle.skeleton_graph.specs.GraphData.{IsGraph, HasItsChildren}
@@ -22,7 +23,6 @@ use Rattle.fill_core.specs.View.{IsRowOf, IsPartOf, ArePartsOf}
 use Rattle.fill_core.specs.declared.job.Job.{Job}
 use Rattle.fill_core.specs.declared.job.Job.TheVariants.{Inner, Root}
 use Rattle.fill_core.specs.declared.row.Row.{Row}
-use Rattle.fill_core.proofs.PlanLaws.{contains_in, in_contains}
 use Rattle.top_call.specs.Search.{part_cost, kept_row, AreKept, ChildrenKept, FilledAreKept, IsKept, IsLeft}
 
 -- a row that may not be there is the one of a skeleton, where it is there

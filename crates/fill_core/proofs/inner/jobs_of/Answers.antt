@@ -1,7 +1,8 @@
 use Rattle.std.proofs.Common.{◌≡◌, ◌++◌, length, map, ap, ◌∙◌, arith}
 use Rattle.fill_core.specs.Marks.{inner_jobs, marks_below}
 use Rattle.fill_core.specs.declared.job.Job.TheVariants.{Root}
-use Rattle.fill_core.proofs.PlanLaws.{falls_of, marks_size, inner_listed}
+use Rattle.skeleton_graph.proofs.AboveLaws.{falls_of}
+use Rattle.fill_core.proofs.PlanLaws.{marks_size, inner_listed}
 use Rattle.fill_core.proofs.inner.jobs_of.Goals as goal
 
 pub inner_jobs-requires : goal.inner_jobs-requires

@@ -1,7 +1,8 @@
 use Rattle.std.proofs.Common.{◌≡◌, sym, subst, ◌<◌, length}
 use Rattle.std.specs.Prelude.{All}
 use Rattle.fill_core.specs.Plans.{PlanData, ChildrenAreInner, PartsComeFirst, node_of}
-use Rattle.fill_core.proofs.PlanLaws.{falls_of, children_inner}
+use Rattle.fill_core.proofs.PlanLaws.{children_inner}
+use Rattle.skeleton_graph.proofs.AboveLaws.{falls_of}
 use Rattle.fill_core.proofs.JobLaws.{parts_first, jobs_within}
 use Rattle.fill_core.proofs.plan.Plan.is_planned.Goals as goal
 
