@@ -12,14 +12,12 @@ use Rattle.table_core.specs.Rows.{Row}
 use Rattle.table_core.specs.Bag.{same_cells, count, same_rows, has_double}
 use Rattle.query_core.specs.Firsts.{projected, firsts}
 use Rattle.query_core.specs.Meaning.{selected}
-use Rattle.root_search.specs.declared.target.Target.{Target}
-use Rattle.root_search.specs.Targets.{ones, shared, mask_of, target_of, targets, all_give, each_found, firsts_give, bits_give, are_enough}
+use Rattle.map_walk.specs.declared.target.Target.{Target}
+use Rattle.map_walk.specs.Targets.{ones, are_enough}
+use Rattle.map_walk.proofs.WalkLaws.{ones_next}
+use Rattle.root_search.specs.Targets.{shared, mask_of, target_of, targets, all_give, each_found, firsts_give, bits_give}
 use Rattle.root_search.specs.Laws.{GivenByBits, NoneByFew}
 use Rattle.root_search.proofs.CountLaws.{all_counts, first_counts, all_by_counts, firsts_by_counts}
-
--- one element more
-pub ones_next : (b : Bool) (bits : List Bool) → ones (b ∷ bits) ≡ cond b 1 0 + ones bits
-ones_next b bits = sum_by-cons (λ c. cond c 1 0) b bits
 
 -- as many of what is kept pass a test as bits are set in both what keeps and the test's mask
 count_masked : {X : Type 0} (f : X → Row) (p : Row → Bool) (bits : List Bool) (xs : List X) → count_by p (map f (masked bits xs)) ≡ shared bits (map (λ x. p (f x)) xs)

@@ -11,13 +11,9 @@ use Rattle.table_core.proofs.BagLaws.{same_cells_decides}
 use Rattle.query_core.specs.Firsts.{firsts}
 use Rattle.query_laws.proofs.MemberLaws.{in_back}
 use Rattle.query_laws.proofs.FirstCopyLaws.{in_firsts, once_firsts, firsts_single}
-use Rattle.root_search.proofs.RowCountLaws.{all_of, of_all, firsts_in, counted, found, bag_counts, in_first, in_second}
-
--- two tests that hold of the same are one
-pub both_same : (a b : Bool) → (a ≡ true → b ≡ true) → (b ≡ true → a ≡ true) → a ≡ b
-both_same true b to from = sym (to refl)
-both_same false true to from = absurd (false≢true (from refl))
-both_same false false to from = refl
+use Rattle.query_laws.proofs.AscendingLists.{all_of, of_all}
+use Rattle.map_walk.proofs.RowCountLaws.{both_same, firsts_in, counted}
+use Rattle.root_search.proofs.RowCountLaws.{found, bag_counts, in_first, in_second}
 
 -- whether a row is among some rows
 abbrev among : List Row → Row → Bool
@@ -160,18 +156,13 @@ kept_fewer p (y ∷ ys) x (inr i) fails =
     let rest = kept_fewer p ys x i fails in
     elim (cases_Bool (p y)) [ inl kept ↦ rw kept (omega (arith, rest)) | inr out ↦ rw out (omega (arith, rest)) ]
 
-pub any_same : (xs : List Row) (x : Row) → list_any (λ r. same_cells r x) xs ≡ true → In x xs
+any_same : (xs : List Row) (x : Row) → list_any (λ r. same_cells r x) xs ≡ true → In x xs
 any_same [] x is = absurd (false≢true is)
 any_same (y ∷ ys) x is =
     elim (or_cases (same_cells y x) (list_any (λ r. same_cells r x) ys) is) [
       | inl here ↦ inl (sym ((same_cells_decides y x).0 here))
       | inr later ↦ inr (any_same ys x later)
     ]
-
-pub same_any : (xs : List Row) (x : Row) → In x xs → list_any (λ r. same_cells r x) xs ≡ true
-same_any [] x i = absurd i
-same_any (y ∷ ys) x (inl e) = rw ((same_cells_decides y x).1 (sym e)) refl
-same_any (y ∷ ys) x (inr i) = let later = same_any ys x i in elim (cases_Bool (same_cells y x)) [ inl here ↦ rw here refl | inr other ↦ rw (other, later) refl ]
 
 pub double_fewer : (xs : List Row) → has_double xs ≡ true → length (firsts xs) < length xs
 double_fewer [] is = absurd (false≢true is)

@@ -1,9 +1,6 @@
 pub mod AnswerLaws
 pub mod BitLaws
 pub mod CountLaws
-pub mod NarrowLaws
-pub mod OpenLaws
 pub mod ReadLaws
 pub mod ReadingLaws
 pub mod RowCountLaws
-pub mod StepLaws

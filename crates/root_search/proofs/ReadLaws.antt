@@ -17,13 +17,14 @@ use Rattle.query_core.proofs.MapLaws.{flat_map_same, flat_map_filter}
 use Rattle.bit_rows.specs.Masked.{masked}
 use Rattle.fill_core.specs.Offers.{filled_by, filled_by_all, GivesNothing}
 use Rattle.fill_core.specs.declared.choice.Choice.{Choice}
+use Rattle.map_walk.specs.Targets.{are_enough}
+use Rattle.map_walk.specs.declared.target.Reading.{Reading}
 use Rattle.root_search.specs.Answers.{query_of, answers_by, answers_on, AreOfGrammar, FillingFits}
 use Rattle.root_search.specs.Reads.{preds_of, read_answers, choice_answers}
 use Rattle.root_search.specs.Readings.{reading_of, readings}
-use Rattle.root_search.specs.Targets.{targets, are_enough, rows_give}
-use Rattle.root_search.specs.declared.reading.Reading.{Reading}
+use Rattle.root_search.specs.Targets.{targets, rows_give}
 use Rattle.root_search.proofs.BitLaws.{given_by_bits, none_by_few}
-use Rattle.root_search.proofs.StepLaws.{readings_fit}
+use Rattle.root_search.proofs.ReadingLaws.{readings_fit}
 
 -- by a map with enough candidates
 by_enough : (task : TaskParts) (n : ℕ) (skeleton : Tree) (types : List ColType) (parts : List Pred) (candidates : List Row) (c : Choice) (picks : List ℕ) → length c.bits ≡ length candidates

@@ -9,10 +9,11 @@ use Rattle.query_core.specs.Tree.{Tree}
 use Rattle.query_core.specs.Grammar.{skeletons}
 use Rattle.query_core.specs.Answers.{ranked, found}
 use Rattle.query_core.specs.Filled.{standard_fillings}
+use Rattle.map_walk.specs.Targets.{are_enough}
+use Rattle.map_walk.specs.declared.target.Target.{Target}
 use Rattle.root_search.specs.Answers.{root_answers, FillingFits}
 use Rattle.root_search.specs.Readings.{readings}
-use Rattle.root_search.specs.Targets.{rows_give, targets, bits_give, are_enough}
-use Rattle.root_search.specs.declared.target.Target.{Target}
+use Rattle.root_search.specs.Targets.{rows_give, targets, bits_give}
 
 -- the candidates that some bits keep give an output exactly where the bits give its targets
 abbrev pub GivenByBits : List ℕ → Bool → List Bool → List Row → List Row → Type 0

@@ -1,9 +1,5 @@
 pub mod Answers
 pub mod Laws
-pub mod Narrow
-pub mod Open
 pub mod Readings
 pub mod Reads
 pub mod Targets
-pub mod Walk
-pub mod WalkState

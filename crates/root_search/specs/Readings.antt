@@ -3,8 +3,9 @@ use Rattle.std.specs.Prelude.{ℕ, List, map, filter}
 use Rattle.value_core.specs.declared.value.ColType.{ColType}
 use Rattle.table_core.specs.Rows.{Row, TableData, types_of}
 use Rattle.query_core.specs.Grammar.{maps}
-use Rattle.root_search.specs.Targets.{targets, are_enough}
-use Rattle.root_search.specs.declared.reading.Reading.{Reading}
+use Rattle.map_walk.specs.Targets.{are_enough}
+use Rattle.map_walk.specs.declared.target.Reading.{Reading}
+use Rattle.root_search.specs.Targets.{targets}
 
 -- a map with its targets
 abbrev pub reading_of : List Row → List Row → List ℕ → Reading

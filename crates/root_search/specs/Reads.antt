@@ -8,7 +8,7 @@ use Rattle.fill_core.specs.Offers.{as_list}
 use Rattle.fill_core.specs.declared.choice.Choice.{Choice}
 use Rattle.root_search.specs.Answers.{query_of}
 use Rattle.root_search.specs.Targets.{bits_give}
-use Rattle.root_search.specs.declared.reading.Reading.{Reading}
+use Rattle.map_walk.specs.declared.target.Reading.{Reading}
 
 -- the predicates of a choice behind its parts'
 abbrev pub preds_of : List Pred → Choice → List Pred

@@ -1,20 +1,17 @@
 -- The rows of an output as targets: which candidate rows of a body project to each, and how often it is wanted.
-use Rattle.std.specs.Prelude.{ℕ, Bool, true, false, not, ◌&&◌, ◌||◌, ◌==◌, nat_lt, nat_le, List, map, count_by}
+use Rattle.std.specs.Prelude.{ℕ, Bool, true, false, not, ◌&&◌, ◌||◌, ◌==◌, nat_lt, nat_le, List, map}
 use Rattle.std.specs.List.{list_all, sum_by}
 use Rattle.table_core.specs.Rows.{Row}
 use Rattle.table_core.specs.Bag.{same_cells, count, same_rows, has_double}
 use Rattle.query_core.specs.Firsts.{projected, firsts}
 use Rattle.query_core.specs.Meaning.{selected, given_rows}
 use Rattle.bit_rows.specs.Bits.{and_bits}
-use Rattle.root_search.specs.declared.target.Target.{Target}
+use Rattle.map_walk.specs.Targets.{ones}
+use Rattle.map_walk.specs.declared.target.Target.{Target}
 
 -- whether the rows of a body give an output by this map: they are its bag, and where duplicates are removed there are some
 abbrev pub rows_give : List ℕ → Bool → List Row → List Row → Bool
 rows_give picks distinct rows output = (not distinct || has_double (selected picks rows)) && same_rows (given_rows picks distinct rows) output
-
--- how many bits are set
-abbrev pub ones : List Bool → ℕ
-ones bits = count_by (λ b. b) bits
 
 -- how many bits are set in both of two rows
 abbrev pub shared : List Bool → List Bool → ℕ
@@ -48,7 +45,3 @@ firsts_give wanted bits targets = nat_lt wanted (ones bits) && each_found (ones 
 abbrev pub bits_give : Bool → ℕ → List Bool → List Target → Bool
 bits_give true wanted bits targets = firsts_give wanted bits targets
 bits_give false wanted bits targets = all_give wanted bits targets
-
--- whether each target has at least as many candidates as copies
-abbrev pub are_enough : List Target → Bool
-are_enough targets = list_all (λ t. nat_le t.copies (ones t.mask)) targets

@@ -1,8 +1,7 @@
-use crate::open::is_open;
-use crate::reading::{Reading, readings};
 use crate::refill::refilled;
 use crate::target::bits_give;
 use fill_core::{Choice, Offer, Receiver};
+use map_walk::{Reading, is_open, readings};
 use predicate_core::Pred;
 use query_core::{Node, Query};
 use rank_core::{Ranked, key};

@@ -1,7 +1,7 @@
 ghost use Rattle.std.specs.Prelude.{ℕ, Bool, List};
 ghost use Rattle.value_core.specs.declared.value.ColType.{ColType};
 ghost use Rattle.table_core.specs.Rows.{Row, TableData};
-ghost use Rattle.root_search.specs.declared.target.Target.{Target};
+ghost use Rattle.map_walk.specs.declared.target.Target.{Target};
 ghost use Rattle.root_search.specs.Laws.{GivenByBits, NoneByFew, ReadingsFit, FillingsFit, AnswersByRoots};
 
 use query_laws::faults_decide_membership;
@@ -20,7 +20,7 @@ pub fn too_few_give_nothing()
 {}
 
 /// The law of readings: each has the targets of its map, whose masks have the length of bits of the candidates.
-#[tactic(auto, using(crate::proofs::StepLaws::readings_fit))]
+#[tactic(auto, using(crate::proofs::ReadingLaws::readings_fit))]
 pub fn readings_have_their_targets()
     ensures { (types : List ColType) (candidates : List Row) (table : TableData) (bits : List Bool) → ReadingsFit types candidates table bits }
 {}

@@ -3,10 +3,6 @@
 
 mod finder;
 mod laws;
-mod offer;
-mod open;
-mod places;
-mod reading;
 mod refill;
 mod root;
 mod target;

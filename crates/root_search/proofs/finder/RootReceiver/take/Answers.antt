@@ -1,4 +1,4 @@
-use Rattle.std.proofs.Common.{◌≡◌, arith, length, subst, sym, ap, ◌∙◌, Bool, None}
+use Rattle.std.proofs.Common.{◌≡◌, arith, length, subst, sym, ◌∙◌, Bool, None}
 use Rattle.std.specs.Prelude.{All}
 use Rattle.query_core.specs.Grammar.{maps}
 use Rattle.query_core.specs.Membership.{query_fault}

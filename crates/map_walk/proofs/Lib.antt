@@ -1,0 +1,5 @@
+pub mod NarrowLaws
+pub mod OpenLaws
+pub mod ReadingLaws
+pub mod RowCountLaws
+pub mod WalkLaws

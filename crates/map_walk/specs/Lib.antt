@@ -1,0 +1,5 @@
+pub mod Narrow
+pub mod Open
+pub mod Readings
+pub mod Targets
+pub mod Walk

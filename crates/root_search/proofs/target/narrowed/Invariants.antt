@@ -1,6 +1,0 @@
-use Rattle.std.proofs.Common.{◌≡◌, ◌++◌, drop}
-use Rattle.root_search.specs.Narrow.{narrowed}
-use Rattle.root_search.proofs.target.narrowed.Given as goal
-
-abbrev pub invariant-loop-i : goal.invariant-loop-i
-invariant-loop-i l = l.out ++ narrowed (drop l.i l.targets) (drop l.i l.masks) ≡ narrowed l.targets l.masks
