@@ -13,5 +13,5 @@ mod tree_over;
 
 pub use laws::{never_where_a_part_has_no_rows, rows_are_covered, what_is_not_live_has_no_answer};
 pub use row::AbsRow;
-pub use serve::can_serve_by;
+pub use serve::serves;
 pub use tree_over::over;
