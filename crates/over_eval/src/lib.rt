@@ -11,12 +11,11 @@ mod part_over;
 mod row;
 mod rows;
 mod serve;
-mod serves_stub;
 mod tree_over;
 
 pub use below::OverBelow;
 pub use laws::{never_where_a_part_has_no_rows, rows_are_covered, what_is_not_live_has_no_answer};
 pub use live_numbers::live;
 pub use row::AbsRow;
-pub use serve::can_serve_by;
+pub use serve::serves;
 pub use tree_over::{over, over_node};

@@ -12,7 +12,7 @@ ghost use Rattle.over_eval.specs.Parts.{AreOversOf};
 
 use crate::below::{OverBelow, rows_of};
 use crate::row::AbsRow;
-use crate::serves_stub::serves;
+use crate::serve::serves;
 use crate::tree_over::over_node;
 use query_core::{Node, node_types};
 use skeleton_graph::{Graph, SkelNode};
