@@ -1,6 +1,7 @@
 -- What a row weighs.
-use Rattle.std.proofs.Common.{◌≡◌, refl, ap, ◌∙◌, ℕ, ◌+◌, List, [], ◌∷◌, map, length}
+use Rattle.std.proofs.Common.{◌≡◌, refl, sym, ap, ◌∙◌, ℕ, ◌+◌, List, [], ◌∷◌, map, length}
 use Rattle.std.specs.List.{sum_by}
+use Rattle.std.proofs.lemmas.List.Sums.{sum_by-cons}
 use Rattle.value_core.specs.declared.value.ColType.{ColType}
 use Rattle.table_core.specs.declared.task.TaskParts.{TaskParts}
 use Rattle.query_core.specs.Filled.{Filled}
@@ -11,7 +12,10 @@ use Rattle.fill_core.specs.View.{entry_filled, entries_filled, IsRowOf, weight, 
 
 entries_weigh : (types : List ColType) (entries : List Entry) → sum_by (λ (e : Entry). length e.rows + 1) entries ≡ sum_by (λ (f : Filled). length f.rows + 1) (entries_filled types entries)
 entries_weigh types [] = refl
-entries_weigh types (e ∷ entries) = ap (λ n. (length e.rows + 1) + n) (entries_weigh types entries)
+entries_weigh types (e ∷ entries) =
+    sum_by-cons (λ (x : Entry). length x.rows + 1) e entries
+    ∙ ap (λ n. (length e.rows + 1) + n) (entries_weigh types entries)
+    ∙ sym (sum_by-cons (λ (f : Filled). length f.rows + 1) (entry_filled types e) (entries_filled types entries))
 
 -- the row of a skeleton weighs what the skeleton does
 pub weight_is : (task : TaskParts) (skeleton : Tree) (row : Row) → IsRowOf task skeleton row → weight row ≡ weight_of task skeleton

@@ -7,7 +7,7 @@ use Rattle.std.specs.List.Sorted.{IsStrictlyIncreasing}
 use Rattle.std.proofs.lemmas.Bool.{cases_Bool, false≢true}
 use Rattle.std.proofs.lemmas.List.{length-map}
 use Rattle.std.proofs.lemmas.List.Elements.{All-nil, All-cons}
-use Rattle.std.proofs.lemmas.List.Sums.{sum_by-append}
+use Rattle.std.proofs.lemmas.List.Sums.{sum_by-append, sum_by-cons}
 use Rattle.std.proofs.lemmas.Option.{same_Some, none-some, slice_get_within}
 use Rattle.predicate_core.proofs.OnceLists.{In, in_at, in_map}
 use Rattle.table_core.specs.declared.task.TaskParts.{TaskParts}
@@ -124,7 +124,8 @@ summed w g p q at (x ∷ xs) each =
   where
     one : (b c : Bool) → c ≡ b → g at ≡ x → sum_by (λ k. w (g k)) (list_filter p (range_with_len (at + 1) (length xs))) ≡ sum_by w (list_filter q xs)
         → sum_by (λ k. w (g k)) (cond c (at ∷ list_filter p (range_with_len (at + 1) (length xs))) (list_filter p (range_with_len (at + 1) (length xs)))) ≡ sum_by w (cond b (x ∷ list_filter q xs) (list_filter q xs))
-    one true true e first rest = ap₂ (λ t n. w t + n) first rest
+    one true true e first rest =
+        sum_by-cons (λ k. w (g k)) at (list_filter p (range_with_len (at + 1) (length xs))) ∙ ap₂ (λ t n. w t + n) first rest ∙ sym (sum_by-cons w x (list_filter q xs))
     one false false e first rest = rest
     one true false e first rest = absurd (false≢true e)
     one false true e first rest = absurd (false≢true (sym e))
@@ -154,11 +155,14 @@ inner_by_tree task nodes roots trees is above k part there =
 -- the jobs of roots fill nothing
 roots_free : (task : TaskParts) (trees : List Tree) (roots : List ℕ) → sum_by (part_cost task trees) (map Root roots) ≡ 0
 roots_free task trees [] = refl
-roots_free task trees (k ∷ roots) = roots_free task trees roots
+roots_free task trees (k ∷ roots) = sum_by-cons (part_cost task trees) (Root k) (map Root roots) ∙ roots_free task trees roots
 
 inner_costs : (task : TaskParts) (trees : List Tree) (inner : List ℕ) → sum_by (part_cost task trees) (map Inner inner) ≡ sum_by (λ k. weight_of task (tree_at trees k)) inner
 inner_costs task trees [] = refl
-inner_costs task trees (k ∷ inner) = ap (λ n. weight_of task (tree_at trees k) + n) (inner_costs task trees inner)
+inner_costs task trees (k ∷ inner) =
+    sum_by-cons (part_cost task trees) (Inner k) (map Inner inner)
+    ∙ ap (λ n. weight_of task (tree_at trees k) + n) (inner_costs task trees inner)
+    ∙ sym (sum_by-cons (λ n. weight_of task (tree_at trees n)) k inner)
 
 -- the parts of a plan of the live skeletons weigh what the task's do
 parts_are : (task : TaskParts) (nodes : List SkelNode) (roots : List ℕ) → trees_of nodes ≡ skeletons task → roots ≡ live_numbers task → AboveHasBelow nodes
