@@ -1,9 +1,10 @@
 -- Laws of a search of a plan: the rows that it keeps are those of its nodes' parts, and what they cost.
-use Rattle.std.proofs.Common.{◌≡◌, ℕ, ◌+◌, ◌<◌, ◌≤◌, arith, zero, suc, get_or, true, false, Bool, is_some, List, [], ◌∷◌, ◌++◌, length, set, take, Option, Some, None, refl, sym, ap, subst, ◌∙◌, ◌⊎◌, inl, inr}
+use Rattle.std.proofs.Common.{◌≡◌, ℕ, ◌+◌, ◌<◌, ◌≤◌, arith, zero, suc, get_or, replicate, map, true, false, true≢false, Bool, is_some, List, [], ◌∷◌, ◌++◌, length, set, take, Option, Some, None, refl, sym, ap, subst, ◌∙◌, ◌⊎◌, inl, inr}
 use Rattle.std.specs.Prelude.{slice_get, option_and_then, Contains}
-use Rattle.std.specs.List.{sum_by}
+use Rattle.std.specs.List.{flat_map, sum_by}
 use Rattle.std.proofs.lemmas.Bool.{false≢true}
-use Rattle.std.proofs.lemmas.List.{take_more}
+use Rattle.std.proofs.lemmas.List.{append-nil, take_more}
+use Rattle.std.proofs.lemmas.List.Concat.{flat_map-append, length-flat_map}
 use Rattle.std.proofs.lemmas.List.Sums.{sum_by_more, sum_by-take-le}
 use Rattle.std.proofs.lemmas.Option.{same_Some, none-some, slice_get_within, get_or_from_slice_get}
 use Rattle.value_core.specs.declared.value.ColType.{ColType}
@@ -134,3 +135,51 @@ cost_over task trees jobs i job budget left is before over =
     let one : f (get_or jobs i job) ≡ f job = ap f (get_or_from_slice_get jobs i job job is) in
     let some = sum_by-take-le f jobs (i + 1) in
     omega (arith, more, one, some, before, over)
+
+-- no row stands in empty places
+pub none_there : (n k : ℕ) (row : Row) → slice_get (replicate n None) k ≡ Some (Some row) → ⊥
+none_there zero k row there = none-some (Some row) there
+none_there (suc n) zero row there = none-some row (same_Some None (Some row) there)
+none_there (suc n) (suc k) row there = none_there n k row there
+
+-- before any job nothing has to be kept
+pub filled_none : (rows : List (Option Row)) → FilledAreKept [] rows
+filled_none rows = λ k there. absurd (contains_in [] (Inner k) there)
+
+-- whether a job fills a part
+fills : Job → Bool
+fills (Inner k) = true
+fills (Root k) = false
+
+-- a job that fills a part has its row kept, and one that searches a root fills none
+pub filled_inner : (rows : List (Option Row)) (k : ℕ) → IsKept rows k → FilledAreKept (Inner k ∷ []) rows
+filled_inner rows k kept = λ j there. one j (contains_in (Inner k ∷ []) (Inner j) there)
+  where
+    one : (j : ℕ) → In (Inner j) (Inner k ∷ []) → IsKept rows j
+    one j (inl e) = subst (IsKept rows) (sym (ap node_of e)) kept
+    one j (inr gone) = absurd gone
+
+pub filled_root : (rows : List (Option Row)) (k : ℕ) → FilledAreKept (Root k ∷ []) rows
+filled_root rows k = λ j there. one j (contains_in (Root k ∷ []) (Inner j) there)
+  where
+    one : (j : ℕ) → In (Inner j) (Root k ∷ []) → IsKept rows j
+    one j (inl e) = absurd (true≢false (ap fills e))
+    one j (inr gone) = absurd gone
+
+-- the answers of one root more
+pub found_more : {X : Type 0} (f : ℕ → List X) (roots : List ℕ) (i root : ℕ) (old new : List X) → slice_get roots i ≡ Some root → old ≡ flat_map f (take i roots) → new ≡ old ++ f root → new ≡ flat_map f (take (i + 1) roots)
+found_more f roots i root old new is before pushed =
+    let more : take (i + 1) roots ≡ take i roots ++ root ∷ [] = take_more roots i root (slice_get_within roots i root is) ∙ ap (λ j. take i roots ++ j ∷ []) (get_or_from_slice_get roots i root root is) in
+    pushed
+    ∙ ap (λ xs. xs ++ f root) before
+    ∙ ap (λ xs. flat_map f (take i roots) ++ xs) (sym (append-nil (f root)))
+    ∙ sym (flat_map-append f (take i roots) (root ∷ []))
+    ∙ ap (flat_map f) (sym more)
+
+-- the answers of some first roots are no more than those of all
+pub found_few : {X : Type 0} (f : ℕ → List X) (roots : List ℕ) (i : ℕ) → length (flat_map f (take i roots)) ≤ length (flat_map f roots)
+found_few f roots i =
+    let some = length-flat_map f (take i roots) in
+    let all = length-flat_map f roots in
+    let less = sum_by-take-le (λ k. length (f k)) roots i in
+    omega (arith, some, all, less)
