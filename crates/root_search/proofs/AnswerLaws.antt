@@ -25,7 +25,7 @@ use Rattle.query_laws.proofs.ListLaws.{in_contains}
 use Rattle.query_laws.proofs.MemberLaws.{in_flat_map, in_kept, in_equal, flat_map_in as in_flat}
 use Rattle.query_laws.proofs.QueryLaws.{plain_queries_are, opened, opened_fillings, opened_skeletons}
 use Rattle.root_search.specs.Answers.{given, with_preds, query_of, answer_by, answers_by, answers_on, root_answers, FillingFits}
-use Rattle.root_search.specs.Laws.{FillingsFit}
+use Rattle.root_search.specs.Laws.{FillingsFit, AnswersByRoots}
 use Rattle.root_search.specs.Targets.{rows_give}
 
 -- a tree's own predicates, put into its holes, give the tree, and what stands behind them is left

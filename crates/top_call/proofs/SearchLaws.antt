@@ -11,6 +11,7 @@ use Rattle.value_core.specs.declared.value.ColType.{ColType}
 use Rattle.predicate_core.proofs.OnceLists.{In, in_append}
 use Rattle.table_core.specs.declared.task.TaskParts.{TaskParts}
 use Rattle.query_laws.proofs.ListLaws.{contains_in, in_contains}
+use Rattle.query_laws.proofs.MemberLaws.{in_front, map_in}
 use Rattle.query_core.specs.Tree.{Tree}
 use Rattle.query_core.specs.Tree as t
 use Rattle.skeleton_graph.specs.GraphData.{IsGraph, HasItsChildren}
@@ -19,7 +20,7 @@ use Rattle.skeleton_graph.specs.declared.node.Kind.{Kind}
 use Rattle.skeleton_graph.specs.declared.node.Kind.TheVariants as kind
 use Rattle.skeleton_graph.specs.declared.node.SkelNode.{SkelNode}
 use Rattle.skeleton_graph.proofs.TreeLaws.{tree_made}
-use Rattle.fill_core.specs.Plans.{node_of, IsChild, PartsComeFirst}
+use Rattle.fill_core.specs.Plans.{inner_of, jobs_of, node_of, IsChild, ChildrenAreInner, PartsComeFirst}
 use Rattle.fill_core.specs.View.{IsRowOf, IsPartOf, ArePartsOf}
 use Rattle.fill_core.specs.declared.job.Job.{Job}
 use Rattle.fill_core.specs.declared.job.Job.TheVariants.{Inner, Root}
@@ -147,7 +148,7 @@ pub filled_none : (rows : List (Option Row)) → FilledAreKept [] rows
 filled_none rows = λ k there. absurd (contains_in [] (Inner k) there)
 
 -- whether a job fills a part
-fills : Job → Bool
+abbrev fills : Job → Bool
 fills (Inner k) = true
 fills (Root k) = false
 
@@ -183,3 +184,12 @@ found_few f roots i =
     let all = length-flat_map f roots in
     let less = sum_by-take-le (λ k. length (f k)) roots i in
     omega (arith, some, all, less)
+
+-- the children of a root are kept, where what the jobs fill is
+pub root_children : (nodes : List SkelNode) (roots : List ℕ) (jobs : List Job) (rows : List (Option Row)) (root : ℕ) → jobs ≡ jobs_of nodes roots → ChildrenAreInner nodes roots → In root roots → FilledAreKept jobs rows → ChildrenKept nodes rows root
+root_children nodes roots jobs rows root listed inner there filled =
+    λ child told.
+    let numbers = inner_of nodes roots in
+    let h = inner root child (inr (in_contains roots root there)) told in
+    let first : In (Inner child) (jobs_of nodes roots) = in_front (Inner child) (map Inner numbers) (map Root roots) (map_in Inner child numbers (contains_in numbers child h.0)) in
+    filled child (in_contains jobs (Inner child) (subst (In (Inner child)) (sym listed) first))

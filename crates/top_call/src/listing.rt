@@ -71,15 +71,15 @@ impl Engine {
 }
 
 // Writes the text of a task's answers.
-fn write_answers<K: Sink>(alloc: Global, task: &Task, answers: &[Ranked], out: &mut K) -> End
-    requires { map ranked_query answers.now ≡ answers task.now }
+fn write_answers<K: Sink>(alloc: Global, task: &Task, list: &[Ranked], out: &mut K) -> End
+    requires { map ranked_query list.now ≡ answers task.now }
     ensures { Prints task.now (K.written out.old) (K.written out.new) (K.faults out.old) (K.faults out.new) result }
 {
-    let Ok(text) = text(alloc, task, answers) else {
+    let Ok(text) = text(alloc, task, list) else {
         return End::OutOfMemory;
     };
     match write_all(out, text.as_slice()) {
-        Ok(()) => end_of(answers.len()),
+        Ok(()) => end_of(list.len()),
         Err(WriteFault) => End::WriteFault,
     }
 }

@@ -6,7 +6,7 @@ use Rattle.top_call.proofs.listing.write_answers.Goals as goal
 
 pub returns-in-Ok-write_all : goal.returns-in-Ok-write_all
 returns-in-Ok-write_all g c =
-    let list = c.args.answers.now in
+    let list = c.args.list.now in
     let count = c.len.ensures ∙ sym (length-map list ranked_query) in
     let printed = c.in-Ok.ensures in
     let gain = rw c.as_slice.ensures.value at c.in-Ok-write_all.ensures.all in

@@ -1,0 +1,24 @@
+use Rattle.std.proofs.Common.{◌≡◌, ◌<◌, ◌∷◌, [], length, set, sym, ap, subst, arith, Some}
+use Rattle.fill_core.specs.Plans.{node_of}
+use Rattle.fill_core.specs.declared.job.Job.{Job}
+use Rattle.top_call.specs.Search.{AreKept, FilledAreKept}
+use Rattle.top_call.proofs.SearchLaws.{put_is, put_still, put_kept, filled_inner}
+use Rattle.top_call.proofs.search.fill.Goals as goal
+
+pub filled-requires-clause-kept : goal.filled-requires-clause-kept
+filled-requires-clause-kept c = subst (AreKept c.args.plan.now.task c.args.plan.now.graph.nodes) (sym c.as_slice.ensures.value) c.requires.kept
+
+pub returns-clause-kept : goal.returns-clause-kept
+returns-clause-kept c = put_kept c.args.plan.now.task c.args.plan.now.graph.nodes c.args.rows.now.items c.in-Inner.number c.in_ok-row.row c.requires.kept c.in_ok-row.ensures
+
+pub returns-clause-still : goal.returns-clause-still
+returns-clause-still c = λ k was. put_still c.args.rows.now.items c.in-Inner.number k c.in_ok-row.row was
+
+pub returns-clause-filled : goal.returns-clause-filled
+returns-clause-filled c =
+    let rows = c.args.rows.now.items in
+    let number = c.in-Inner.number in
+    let row = c.in_ok-row.row in
+    let here = ap node_of c.in-Inner.is in
+    let Filled : Job → Type 0 = λ job. FilledAreKept (job ∷ []) (set rows number (Some row)) in
+    subst Filled (sym c.in-Inner.is) (filled_inner (set rows number (Some row)) number (put_is rows number row (omega (arith, here, c.requires.node, c.requires.size))))
