@@ -1,8 +1,8 @@
 -- A search of the live skeletons needs what its task does, and finds the task's answers.
 use Rattle.std.proofs.Common.{◌≡◌, refl, sym, ap, ap₂, ◌∙◌, subst, ℕ, zero, suc, ◌+◌, ◌<◌, ◌≤◌, Bool, true, false, ◌||◌, cond, inl, inr, List, [], ◌∷◌, ◌++◌, length, get_or, map, Some, None, arith, if◌then◌else◌}
-use Rattle.std.specs.Prelude.{All, slice_get, flat_map, unwrap_or}
+use Rattle.std.specs.Prelude.{All, slice_get, flat_map, unwrap_or, Result, Ok, Err, IfOk}
 use Rattle.std.specs.Prelude.{filter as list_filter}
-use Rattle.std.specs.List.{enumerate_from, list_any, range_with_len, sum_by}
+use Rattle.std.specs.List.{enumerate_from, list_any, range_with_len, slice_index, sum_by}
 use Rattle.std.specs.List.Sorted.{IsStrictlyIncreasing}
 use Rattle.std.proofs.lemmas.Bool.{cases_Bool, false≢true}
 use Rattle.std.proofs.lemmas.List.{length-map}
@@ -41,7 +41,9 @@ numbered_at at (x ∷ xs) s (inr later) = let h = numbered_at (at + 1) xs s late
 ascends_from : (x : ℕ) (xs : List ℕ) → ((y : ℕ) → In y xs → x < y) → IsStrictlyIncreasing xs → IsStrictlyIncreasing (x ∷ xs)
 ascends_from x [] above ascend zero within = absurd (let no : ⊥ = omega (arith, within) in no)
 ascends_from x (y ∷ xs) above ascend zero within = above y (inl refl)
-ascends_from x xs above ascend (suc k) within = ascend k (omega (arith, within))
+ascends_from x xs above ascend (suc k) within =
+    let place : suc (k + 1) ≡ suc k + 1 = omega arith in
+    subst (λ n. slice_index (x ∷ xs) (suc k) < slice_index (x ∷ xs) n) place (ascend k (omega (arith, within)))
 
 -- the numbers of elements that pass a test ascend
 numbers_ascend : (p : ℕ × Tree → Bool) (at : ℕ) (xs : List Tree) → IsStrictlyIncreasing (map (λ s. s.0) (list_filter p (enumerate_from at xs)))
@@ -145,8 +147,8 @@ inner_by_tree : (task : TaskParts) (nodes : List SkelNode) (roots : List ℕ) �
 inner_by_tree task nodes roots trees is above k part there =
     let size = trees_size nodes in
     let same : length (trees_of nodes) ≡ length (skeletons task) = ap length trees in
-    let at : (n : ℕ) (t : Tree) → slice_get (skeletons task) n ≡ Some t → tree_at (trees_of nodes) n ≡ t = λ n t is_there. ap (λ ts. tree_at ts n) trees ∙ ap (λ o. unwrap_or o (t.base 0)) is_there in
-    let low : (n : ℕ) (t : Tree) → slice_get (skeletons task) n ≡ Some t → n < length nodes = λ n t is_there. let w = slice_get_within (skeletons task) n t is_there in omega (arith, w, size, same) in
+    let at : (n : ℕ) (tree : Tree) → slice_get (skeletons task) n ≡ Some tree → tree_at (trees_of nodes) n ≡ tree = λ n tree is_there. ap (λ ts. tree_at ts n) trees ∙ ap (λ o. unwrap_or o (t.base 0)) is_there in
+    let low : (n : ℕ) (tree : Tree) → slice_get (skeletons task) n ≡ Some tree → n < length nodes = λ n tree is_there. let w = slice_get_within (skeletons task) n tree is_there in omega (arith, w, size, same) in
     ap (λ rs. is_inner nodes rs k) is
     ∙ any_by_tree nodes part k (live_skeletons task) (λ s i.
     let found = live_at task s i in
@@ -155,7 +157,10 @@ inner_by_tree task nodes roots trees is above k part there =
 -- the jobs of roots fill nothing
 roots_free : (task : TaskParts) (trees : List Tree) (roots : List ℕ) → sum_by (part_cost task trees) (map Root roots) ≡ 0
 roots_free task trees [] = refl
-roots_free task trees (k ∷ roots) = sum_by-cons (part_cost task trees) (Root k) (map Root roots) ∙ roots_free task trees roots
+roots_free task trees (k ∷ roots) =
+    let first = sum_by-cons (part_cost task trees) (Root k) (map Root roots) in
+    let rest = roots_free task trees roots in
+    omega (arith, first, rest)
 
 inner_costs : (task : TaskParts) (trees : List Tree) (inner : List ℕ) → sum_by (part_cost task trees) (map Inner inner) ≡ sum_by (λ k. weight_of task (tree_at trees k)) inner
 inner_costs task trees [] = refl
@@ -178,7 +183,9 @@ parts_are task nodes roots trees is above =
     let g : ℕ → Tree = tree_at (trees_of nodes) in
     let numbers : sum_by (λ k. weight_of task (g k)) (inner_of nodes roots) ≡ sum_by (weight_of task) (live_parts task) =
     ap (λ n. sum_by (λ k. weight_of task (g k)) (list_filter p (range_with_len 0 n))) len
-    ∙ summed (weight_of task) g p q 0 (skeletons task) (λ i x there. (ap (λ ts. tree_at ts i) trees ∙ ap (λ o. unwrap_or o (t.base 0)) there, inner_by_tree task nodes roots trees is above i x there)) in
+    ∙ summed (weight_of task) g p q 0 (skeletons task) (λ i x there.
+    let place : 0 + i ≡ i = omega arith in
+    (ap g place ∙ ap (λ ts. tree_at ts i) trees ∙ ap (λ o. unwrap_or o (t.base 0)) there, ap p place ∙ inner_by_tree task nodes roots trees is above i x there)) in
     omega (arith, both, free, inner, numbers)
 
 -- a plan of the live skeletons needs what the task does
@@ -189,3 +196,8 @@ need_is task nodes roots jobs trees is listed above live_law =
     let finds : length (flat_map (answers_at task (trees_of nodes)) roots) ≡ length (answers task) =
     ap length (plan_finds task nodes roots trees is live_law) ∙ sym (ascending_size comes_before (map (ranked task) (found task))) in
     omega (arith, parts, finds)
+
+-- what holds of an answer gives what else holds of it
+pub ok_more : {T E : Type 0} (r : Result T E) (P Q : T → Type 0) → ((x : T) → P x → Q x) → IfOk r P → IfOk r Q
+ok_more (Ok x) P Q h p = h x p
+ok_more (Err e) P Q h p = tt
