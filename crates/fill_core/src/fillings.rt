@@ -22,21 +22,6 @@ pub struct Below<'a> {
     pub right: Option<&'a Row>,
 }
 
-/// Whether the parts of a skeleton are there. It takes no memory.
-pub fn has_parts(skeleton: &Node, below: &Below<'_>) -> bool
-    ensures { result ≡ has_parts (tree skeleton.now) (option_copied below.now.left) (option_copied below.now.right) }
-{
-    match skeleton {
-        Node::Base(_) => true,
-        Node::Filter(_, _) => below.left.is_some(),
-        Node::Join(_, _, _) => below.left.is_some() && below.right.is_some(),
-        Node::Left(_, _, _) => below.left.is_some() && below.right.is_some(),
-        Node::Group(_, _, _) => below.left.is_some(),
-        Node::UnionAll(_, _) => below.left.is_some() && below.right.is_some(),
-        Node::Union(_, _) => below.left.is_some() && below.right.is_some(),
-    }
-}
-
 /// The root of a skeleton over the rows of its parts.
 pub fn site_of<'a>(skeleton: &'a Node, below: &Below<'a>) -> Site<'a>
     requires parts { has_parts (tree skeleton.now) (option_copied below.now.left) (option_copied below.now.right) ≡ true }

@@ -17,7 +17,7 @@ mod row;
 mod site;
 
 pub use choice::Choice;
-pub use fillings::{Below, fill_node, has_parts, site_of};
+pub use fillings::{Below, fill_node, site_of};
 pub use job::Job;
 pub use offer::Offer;
 pub use parts::{Parts, fill, parts_of};

@@ -1,5 +1,4 @@
 pub mod AggregateLaws
-pub mod AllLaws
 pub mod CoverLaws
 pub mod GroupLaws
 pub mod KeptLaws

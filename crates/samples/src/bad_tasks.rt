@@ -105,7 +105,13 @@ const CASES: &[Case] = &[
     ("ops = 0\n", TABLES, b"n\n007\n", b"n\n007\n"),
     ("ops = 0\n", TEXT_TABLES, b"n\n1\n", b"n\n1\n"),
     (
-        "constants = [1]\nops = 1\nleaves = 1\natoms = 1\nshow = 2\nbudget = 1\n",
+        "constants = [1]\nops = 1\nleaves = 1\natoms = 1\nbudget = 1\n",
+        TABLES,
+        T,
+        O,
+    ),
+    (
+        "constants = [1]\nops = 1\nleaves = 1\natoms = 1\nshow = 2\nbudget = 400000\n",
         TABLES,
         T,
         O,

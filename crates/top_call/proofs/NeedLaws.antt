@@ -1,35 +1,34 @@
 -- A search of the live skeletons needs what its task does, and finds the task's answers.
-use Rattle.std.proofs.Common.{◌≡◌, refl, sym, ap, ap₂, ◌∙◌, subst, ℕ, zero, suc, ◌+◌, ◌<◌, ◌≤◌, Bool, true, false, ◌||◌, cond, inl, inr, List, [], ◌∷◌, ◌++◌, length, get_or, map, Some, None, arith, if◌then◌else◌}
+use Rattle.std.proofs.Common.{◌≡◌, refl, sym, ap, ap₂, ◌∙◌, subst, ℕ, zero, suc, ◌+◌, ◌<◌, Bool, true, false, ◌||◌, cond, inl, inr, List, [], ◌∷◌, ◌++◌, length, map, Some, arith, if◌then◌else◌}
 use Rattle.std.specs.Prelude.{All, slice_get, flat_map, unwrap_or, Result, Ok, Err, IfOk}
 use Rattle.std.specs.Prelude.{filter as list_filter}
 use Rattle.std.specs.List.{enumerate_from, list_any, range_with_len, slice_index, sum_by}
 use Rattle.std.specs.List.Sorted.{IsStrictlyIncreasing}
 use Rattle.std.proofs.lemmas.Bool.{cases_Bool, false≢true}
-use Rattle.std.proofs.lemmas.List.{length-map}
 use Rattle.std.proofs.lemmas.List.Elements.{All-nil, All-cons}
 use Rattle.std.proofs.lemmas.List.Sums.{sum_by-append, sum_by-cons}
-use Rattle.std.proofs.lemmas.Option.{same_Some, none-some, slice_get_within}
+use Rattle.std.proofs.lemmas.Option.{slice_get_within}
 use Rattle.predicate_core.proofs.OnceLists.{In, in_at, in_map}
 use Rattle.table_core.specs.declared.task.TaskParts.{TaskParts}
 use Rattle.query_core.specs.Tree.{Tree}
 use Rattle.query_core.specs.Tree as t
-use Rattle.query_core.specs.Grammar.{skeletons, numbered}
-use Rattle.query_core.specs.Answers.{RankedQuery, placed, ascending, comes_before, is_answer, ranked, found, answers}
+use Rattle.query_core.specs.Grammar.{skeletons}
+use Rattle.query_core.specs.Answers.{placed, ascending, comes_before, ranked, found, answers}
 use Rattle.query_laws.proofs.MemberLaws.{in_filter}
 use Rattle.skeleton_graph.specs.Below.{has_below}
 use Rattle.skeleton_graph.specs.Nodes.{above_of, is_among, tree_at, trees_of}
 use Rattle.skeleton_graph.specs.declared.node.SkelNode.{SkelNode}
 use Rattle.skeleton_graph.proofs.TreeLaws.{trees_size}
-use Rattle.fill_core.specs.Plans.{PlanData, is_inner, inner_of, jobs_of}
+use Rattle.fill_core.specs.Plans.{is_inner, inner_of, jobs_of}
 use Rattle.fill_core.specs.View.{weight_of}
 use Rattle.fill_core.specs.declared.job.Job.{Job}
 use Rattle.fill_core.specs.declared.job.Job.TheVariants.{Inner, Root}
 use Rattle.over_eval.specs.Live.{live}
 use Rattle.over_eval.specs.Laws.{live_skeletons, live_numbers, AnswersOfLive}
 use Rattle.root_search.specs.Answers.{root_answers}
-use Rattle.root_search.proofs.AnswerLaws.{answers_of, in_numbered}
+use Rattle.root_search.proofs.AnswerLaws.{answers_of}
 use Rattle.top_call.specs.Need.{live_parts, need}
-use Rattle.top_call.specs.Search.{part_cost, parts_weigh, answers_at, plan_answers, plan_need, plan_trees}
+use Rattle.top_call.specs.Search.{part_cost, answers_at}
 
 -- an element that has a number is at its place
 numbered_at : {X : Type 0} (at : ℕ) (xs : List X) (s : ℕ × X) → In s (enumerate_from at xs) → (i : ℕ) × (s.0 ≡ at + i) × (slice_get xs i ≡ Some s.1)

@@ -199,9 +199,9 @@ when_more (ready t) P Q h p = h t p
 over_by : (plain : Bool) (task : TaskParts) → is_allowed plain task ≡ false → task.budget < need task
 over_by true task e = absurd (true≢false e)
 over_by false task e = elim (cases_lt task.budget (need task)) [
-    | inl less ↦ less
-    | inr most ↦ absurd (true≢false (sym (le-leb (need task) task.budget most) ∙ e))
-  ]
+  | inl less ↦ less
+  | inr most ↦ absurd (true≢false (sym (le-leb (need task) task.budget most) ∙ e))
+]
 
 -- a run is over its budget only where it searches and the need is more
 over_file : (told : Files) (unread unread_now : Counts) (plain : Bool) (file : List ℕ) (old new : Held) (before now : ℕ) (end : End)

@@ -1,6 +1,6 @@
 -- Laws of a search of a plan: the rows that it keeps are those of its nodes' parts, and what they cost.
 use Rattle.std.proofs.Common.{◌≡◌, ℕ, ◌+◌, ◌<◌, ◌≤◌, arith, zero, suc, get_or, replicate, map, true, false, true≢false, Bool, is_some, List, [], ◌∷◌, ◌++◌, length, set, take, Option, Some, None, refl, sym, ap, subst, ◌∙◌, ◌⊎◌, inl, inr}
-use Rattle.std.specs.Prelude.{slice_get, option_and_then, Contains}
+use Rattle.std.specs.Prelude.{slice_get, option_and_then}
 use Rattle.std.specs.List.{flat_map, sum_by}
 use Rattle.std.proofs.lemmas.Bool.{false≢true}
 use Rattle.std.proofs.lemmas.List.{append-nil, take_more}
@@ -13,19 +13,18 @@ use Rattle.table_core.specs.declared.task.TaskParts.{TaskParts}
 use Rattle.query_laws.proofs.ListLaws.{contains_in, in_contains}
 use Rattle.query_laws.proofs.MemberLaws.{in_front, map_in}
 use Rattle.query_core.specs.Tree.{Tree}
-use Rattle.query_core.specs.Tree as t
 use Rattle.skeleton_graph.specs.GraphData.{IsGraph, HasItsChildren}
-use Rattle.skeleton_graph.specs.Nodes.{kind_tree, child_tree, tree_at, trees_of, left_of, right_of}
+use Rattle.skeleton_graph.specs.Nodes.{kind_tree, child_tree, tree_at, trees_of}
 use Rattle.skeleton_graph.specs.declared.node.Kind.{Kind}
 use Rattle.skeleton_graph.specs.declared.node.Kind.TheVariants as kind
 use Rattle.skeleton_graph.specs.declared.node.SkelNode.{SkelNode}
 use Rattle.skeleton_graph.proofs.TreeLaws.{tree_made}
-use Rattle.fill_core.specs.Plans.{inner_of, jobs_of, node_of, IsChild, ChildrenAreInner, PartsComeFirst}
+use Rattle.fill_core.specs.Plans.{inner_of, jobs_of, node_of, ChildrenAreInner, PartsComeFirst}
 use Rattle.fill_core.specs.View.{IsRowOf, IsPartOf, ArePartsOf}
 use Rattle.fill_core.specs.declared.job.Job.{Job}
 use Rattle.fill_core.specs.declared.job.Job.TheVariants.{Inner, Root}
 use Rattle.fill_core.specs.declared.row.Row.{Row}
-use Rattle.top_call.specs.Search.{part_cost, kept_row, AreKept, ChildrenKept, FilledAreKept, IsKept, IsLeft}
+use Rattle.top_call.specs.Search.{part_cost, kept_row, AreKept, ChildrenKept, FilledAreKept, IsKept}
 
 -- a row that may not be there is the one of a skeleton, where it is there
 abbrev MayBeRowOf : TaskParts → Tree → Option Row → Type 0
@@ -69,9 +68,9 @@ parts_kept task nodes types rows k node skeleton left right graph kept children 
     let trees = trees_of nodes in
     let made : skeleton ≡ kind_tree node.kind (child_tree trees node.left) (child_tree trees node.right) = is_skeleton ∙ tree_made nodes k node graph.lefts graph.rights is in
     let first : is_some node.left ≡ true → IsPartOf task (child_tree trees node.left) left = λ there.
-      subst (IsPartOf task (child_tree trees node.left)) (sym is_left) (child_part task nodes rows node.left kept (λ c e. children c (inl (ap (option_and_then (λ (n : SkelNode). n.left)) is ∙ e))) there) in
+    subst (IsPartOf task (child_tree trees node.left)) (sym is_left) (child_part task nodes rows node.left kept (λ c e. children c (inl (ap (option_and_then (λ (n : SkelNode). n.left)) is ∙ e))) there) in
     let second : is_some node.right ≡ true → IsPartOf task (child_tree trees node.right) right = λ there.
-      subst (IsPartOf task (child_tree trees node.right)) (sym is_right) (child_part task nodes rows node.right kept (λ c e. children c (inr (ap (option_and_then (λ (n : SkelNode). n.right)) is ∙ e))) there) in
+    subst (IsPartOf task (child_tree trees node.right)) (sym is_right) (child_part task nodes rows node.right kept (λ c e. children c (inr (ap (option_and_then (λ (n : SkelNode). n.right)) is ∙ e))) there) in
     subst (λ s. ArePartsOf task s left right) (sym made)
     (parts_of task node.kind (child_tree trees node.left) (child_tree trees node.right) left right node.left node.right (graph.shaped k node is) first second)
 

@@ -1,4 +1,4 @@
-use Rattle.std.proofs.Common.{◌≡◌, ◌≤◌, ◌<◌, refl, sym, ap, subst, ◌∙◌, map, arith}
+use Rattle.std.proofs.Common.{◌≡◌, ◌≤◌, refl, ap, subst, ◌∙◌, map, arith}
 use Rattle.query_core.specs.Answers.{ascending, comes_before, answers}
 use Rattle.rank_core.specs.View.{ranked_query}
 use Rattle.fill_core.specs.Plans.{jobs_of}

@@ -1,4 +1,3 @@
-use Rattle.std.proofs.Common.{refl}
 use Rattle.command_line.specs.Command.{command}
 use Rattle.top_call.proofs.RunLaws.{unread_words}
 use Rattle.top_call.proofs.run.run.Goals as goal

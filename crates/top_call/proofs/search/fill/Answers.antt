@@ -1,4 +1,4 @@
-use Rattle.std.proofs.Common.{◌≡◌, ◌<◌, ◌∷◌, [], length, set, sym, ap, subst, arith, Some}
+use Rattle.std.proofs.Common.{◌∷◌, [], set, sym, ap, subst, arith, Some}
 use Rattle.fill_core.specs.Plans.{node_of}
 use Rattle.fill_core.specs.declared.job.Job.{Job}
 use Rattle.top_call.specs.Search.{AreKept, FilledAreKept}
