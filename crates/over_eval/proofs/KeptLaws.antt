@@ -1,5 +1,5 @@
 -- The abstract rows that are kept of nodes are those of the parts of later nodes.
-use Rattle.std.proofs.Common.{◌≡◌, ℕ, ◌+◌, ◌<◌, arith, true, is_some, List, [], ◌∷◌, ◌++◌, length, Option, Some, None, refl, sym, ap, subst, ◌∙◌, ◌⊎◌, inl, inr, length-append}
+use Rattle.std.proofs.Common.{◌≡◌, ℕ, ◌+◌, ◌<◌, ◌≤◌, arith, true, is_some, List, [], ◌∷◌, ◌++◌, length, Option, Some, None, refl, sym, ap, subst, ◌∙◌, ◌⊎◌, inl, inr, length-append}
 use Rattle.std.specs.Prelude.{slice_get, option_and_then}
 use Rattle.std.proofs.Math.Seq.{get_or-append_seam}
 use Rattle.std.proofs.lemmas.Option.{slice_get-get_or}
@@ -39,7 +39,7 @@ kept_is task nodes kept (Some number) are below used there = ap (option_and_then
 pub overs_kept : (task : TaskParts) (nodes : List SkelNode) (types : List (List ColType)) (kept : List (Option (List AbsRow))) (k : ℕ) (node : SkelNode) (skeleton : Tree)
     → IsGraph nodes types → ((user child : ℕ) → left_of nodes user ≡ Some child → is_some (first_use_of nodes child) ≡ true)
     → ((user child : ℕ) → right_of nodes user ≡ Some child → is_some (first_use_of nodes child) ≡ true)
-    → AreKept task nodes kept → k ≡ length kept → slice_get nodes k ≡ Some node → skeleton ≡ tree_at (trees_of nodes) k
+    → AreKept task nodes kept → k ≤ length kept → slice_get nodes k ≡ Some node → skeleton ≡ tree_at (trees_of nodes) k
     → AreOversOf task skeleton (kept_over kept node.left) (kept_over kept node.right)
 overs_kept task nodes types kept k node skeleton graph lefts_used rights_used are size is is_skeleton =
     let trees = trees_of nodes in
@@ -47,9 +47,9 @@ overs_kept task nodes types kept k node skeleton graph lefts_used rights_used ar
     let left_is : left_of nodes k ≡ node.left = ap (option_and_then (λ (n : SkelNode). n.left)) is in
     let right_is : right_of nodes k ≡ node.right = ap (option_and_then (λ (n : SkelNode). n.right)) is in
     let lefts : is_some node.left ≡ true → kept_over kept node.left ≡ over task (child_tree trees node.left) =
-    kept_is task nodes kept node.left are (λ n e. subst (λ m. n < m) size (graph.lefts k n (left_is ∙ e))) (λ n e. lefts_used k n (left_is ∙ e)) in
+    kept_is task nodes kept node.left are (λ n e. omega (arith, size, graph.lefts k n (left_is ∙ e))) (λ n e. lefts_used k n (left_is ∙ e)) in
     let rights : is_some node.right ≡ true → kept_over kept node.right ≡ over task (child_tree trees node.right) =
-    kept_is task nodes kept node.right are (λ n e. subst (λ m. n < m) size (graph.rights k n (right_is ∙ e))) (λ n e. rights_used k n (right_is ∙ e)) in
+    kept_is task nodes kept node.right are (λ n e. omega (arith, size, graph.rights k n (right_is ∙ e))) (λ n e. rights_used k n (right_is ∙ e)) in
     subst (λ s. AreOversOf task s (kept_over kept node.left) (kept_over kept node.right)) (sym made)
     (overs_of task node.kind (child_tree trees node.left) (child_tree trees node.right) node.left node.right _ _ (graph.shaped k node is) lefts rights)
 
