@@ -1,8 +1,7 @@
 -- The abstract rows that are kept of nodes are those of the parts of later nodes.
-use Rattle.std.proofs.Common.{◌≡◌, ℕ, ◌+◌, ◌<◌, ◌≤◌, arith, true, is_some, List, [], ◌∷◌, ◌++◌, length, Option, Some, None, refl, sym, ap, subst, ◌∙◌, ◌⊎◌, inl, inr, length-append}
+use Rattle.std.proofs.Common.{◌≡◌, ℕ, ◌<◌, ◌≤◌, arith, true, is_some, List, length, Option, Some, None, refl, sym, ap, subst, ◌∙◌, get_or}
 use Rattle.std.specs.Prelude.{slice_get, option_and_then}
-use Rattle.std.proofs.Math.Seq.{get_or-append_seam}
-use Rattle.std.proofs.lemmas.Option.{slice_get-get_or}
+use Rattle.std.proofs.lemmas.Option.{get_or_from_slice_get}
 use Rattle.value_core.specs.declared.value.ColType.{ColType}
 use Rattle.table_core.specs.declared.task.TaskParts.{TaskParts}
 use Rattle.query_core.specs.Tree.{Tree}
@@ -11,7 +10,6 @@ use Rattle.skeleton_graph.specs.Nodes.{kind_tree, child_tree, tree_at, trees_of,
 use Rattle.skeleton_graph.specs.declared.node.Kind.{Kind}
 use Rattle.skeleton_graph.specs.declared.node.Kind.TheVariants as kind
 use Rattle.skeleton_graph.specs.declared.node.SkelNode.{SkelNode}
-use Rattle.skeleton_graph.proofs.ChainLaws.{get_left}
 use Rattle.skeleton_graph.proofs.TreeLaws.{tree_made}
 use Rattle.over_eval.specs.Kept.{kept_over, AreKept}
 use Rattle.over_eval.specs.Over.{AbsRow, over}
@@ -53,27 +51,9 @@ overs_kept task nodes types kept k node skeleton graph lefts_used rights_used ar
     subst (λ s. AreOversOf task s (kept_over kept node.left) (kept_over kept node.right)) (sym made)
     (overs_of task node.kind (child_tree trees node.left) (child_tree trees node.right) node.left node.right _ _ (graph.shaped k node is) lefts rights)
 
--- the last of some elements
-last_is : {X : Type 0} (xs : List X) (x : X) (k : ℕ) → k ≡ length xs → slice_get (xs ++ x ∷ []) k ≡ Some x
-last_is xs x k is =
-    let size = length-append xs (x ∷ []) in
-    rw is (slice_get-get_or (xs ++ x ∷ []) (length xs) x (omega (arith, size)) ∙ ap Some (get_or-append_seam xs x [] x))
-
--- a number below one more than another is below it or is it
-below_or_is : (n m : ℕ) → n < m + 1 → (n < m) ⊎ (n ≡ m)
-below_or_is n m below = grind arith
-
--- the rows of one node more are kept, where it is a part of another
-pub kept_more : (task : TaskParts) (nodes : List SkelNode) (kept : List (Option (List AbsRow))) (k : ℕ) (node : SkelNode) (rows : Option (List AbsRow)) → AreKept task nodes kept → k ≡ length kept
-    → slice_get nodes k ≡ Some node → (is_some node.first_use ≡ true → rows ≡ over task (tree_at (trees_of nodes) k)) → AreKept task nodes (kept ++ rows ∷ [])
-kept_more task nodes kept k node rows are size is new number below used =
-    let longer : length (kept ++ rows ∷ []) ≡ length kept + 1 = length-append kept (rows ∷ []) in
-    let within : number < length kept + 1 = omega (arith, longer, below) in
-    which (below_or_is number (length kept) within)
-  where
-    which : (number < length kept) ⊎ (number ≡ length kept) → slice_get (kept ++ rows ∷ []) number ≡ Some (over task (tree_at (trees_of nodes) number))
-    which (inl earlier) = get_left kept (rows ∷ []) number earlier ∙ are number earlier used
-    which (inr last) =
-        let here : number ≡ k = last ∙ sym size in
-        let same : first_use_of nodes number ≡ node.first_use = ap (first_use_of nodes) here ∙ ap (option_and_then (λ (n : SkelNode). n.first_use)) is in
-        last_is kept rows number last ∙ ap Some (new (ap is_some (sym same) ∙ used) ∙ ap (λ n. over task (tree_at (trees_of nodes) n)) (sym here))
+-- the rows that are kept of a node that is a part of another are its rows
+pub kept_read : (task : TaskParts) (nodes : List SkelNode) (kept : List (Option (List AbsRow))) (k : ℕ) (node : SkelNode) (d : Option (List AbsRow)) → AreKept task nodes kept → k < length kept
+    → slice_get nodes k ≡ Some node → is_some node.first_use ≡ true → get_or kept k d ≡ over task (tree_at (trees_of nodes) k)
+kept_read task nodes kept k node d are within is used =
+    let same : first_use_of nodes k ≡ node.first_use = ap (option_and_then (λ (n : SkelNode). n.first_use)) is in
+    get_or_from_slice_get kept k (over task (tree_at (trees_of nodes) k)) d (are k within (ap is_some same ∙ used))

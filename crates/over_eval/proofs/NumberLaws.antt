@@ -51,6 +51,10 @@ tree_there trees i within =
     let there = slice_get-get_or trees i (t.base 0) within in
     there ∙ ap Some (ap (λ o. unwrap_or o (t.base 0)) (sym there))
 
+-- a list that says of each skeleton whether it is live is as long as theirs
+pub live_long : (task : TaskParts) (trees : List Tree) (lives : List Bool) → lives ≡ map (live task) trees → length lives ≡ length trees
+live_long task trees lives are = ap length are ∙ length-map trees (live task)
+
 -- whether the skeleton of a number is live, read from a list of them
 pub live_read : (task : TaskParts) (trees : List Tree) (lives : List Bool) (i : ℕ) (d : Bool) → i < length trees → lives ≡ map (live task) trees → get_or lives i d ≡ live task (tree_at trees i)
 live_read task trees lives i d within are =

@@ -122,7 +122,7 @@ fn kept_of_all(
     Ok(kept)
 }
 
-// Whether the skeleton of a number is live.
+// Whether the skeleton of a number is live. The rows that are kept of it aren't made again.
 fn is_live_at(
     alloc: Global,
     task: &Task,
@@ -131,7 +131,7 @@ fn is_live_at(
     number: u32,
 ) -> Result<bool, OutOfMemory>
     requires number { number < length graph.now.nodes }
-    requires below { number ≤ length kept.now }
+    requires there { number < length kept.now }
     requires kept { AreKept task.now graph.now.nodes kept.now }
     ensures { IfOk result (λ b. b ≡ live task.now (tree_at (trees_of graph.now.nodes) number)) }
 {
@@ -139,11 +139,14 @@ fn is_live_at(
     graph.children_are_used();
     let node = graph.node(number);
     let skeleton = graph.tree(alloc, number)?;
+    if node.first_use.is_some() {
+        return is_live(alloc, task, &skeleton, &kept[number as usize]);
+    }
     let rows = over_kept(alloc, task, &skeleton, node, kept)?;
     is_live(alloc, task, &skeleton, &rows)
 }
 
-// Of each skeleton whether it is live, tested in as many threads as there are processors.
+// Of each skeleton whether it is live, tested in parallel.
 fn are_live<R: Threads + Sync>(
     rt: &R,
     alloc: Global,
@@ -160,7 +163,7 @@ fn are_live<R: Threads + Sync>(
         .with_min_len(LEAST_TESTS)
         .map(
             |number: u32| -> Result<bool, OutOfMemory>
-                requires { (number < length graph.now.nodes) × (number ≤ length kept.now) × AreKept task.now graph.now.nodes kept.now }
+                requires { (number < length graph.now.nodes) × (number < length kept.now) × AreKept task.now graph.now.nodes kept.now }
                 ensures { IfOk result (λ b. b ≡ live task.entry.now (tree_at (trees_of graph.entry.now.nodes) number)) }
             { is_live_at(alloc, task, graph, kept, number) },
         )

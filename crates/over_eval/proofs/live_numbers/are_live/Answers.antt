@@ -1,4 +1,4 @@
-use Rattle.std.proofs.Common.{◌≡◌, ◌<◌, ◌≤◌, ◌-◌, length, ap, ◌∙◌, arith}
+use Rattle.std.proofs.Common.{◌≡◌, ◌<◌, ◌-◌, length, ap, ◌∙◌, arith}
 use Rattle.std.specs.List.{range_with_len}
 use Rattle.rayon.specs.Numbers.{nat_range}
 use Rattle.rayon.proofs.ToStd.{nat_range-All}
@@ -14,7 +14,7 @@ collect-requires-clause-ready g c κs within =
     let nodes = c.args.graph.now.nodes in
     let kept = c.args.kept.now in
     let size = c.len.result in
-    let inside = nat_range-All (λ i. (i < length nodes) × (i ≤ length kept) × AreKept c.args.task.now nodes kept) 0 size
+    let inside = nat_range-All (λ i. (i < length nodes) × (i < length kept) × AreKept c.args.task.now nodes kept) 0 size
     (λ i low high. (omega (arith, high, c.len.ensures), omega (arith, high, c.len.ensures, c.requires.size), c.requires.kept)) in
     rw (c.map.ensures.base, c.map.ensures.f, c.with_min_len.ensures.base, ends.0, ends.1) (λ k d lt. (inside k d lt, λ y p. tt))
 

@@ -1,16 +1,15 @@
-use Rattle.std.proofs.Common.{◌≡◌, ◌+◌, ◌<◌, ◌++◌, ◌∷◌, [], Bool, length, ap, ◌∙◌, arith}
+use Rattle.std.proofs.Common.{◌≡◌, ◌<◌, ◌++◌, ◌∷◌, [], Bool, length, ap, ◌∙◌, arith}
 use Rattle.std.specs.Prelude.{if◌then◌else◌}
-use Rattle.std.proofs.lemmas.List.{length-map}
 use Rattle.skeleton_graph.specs.Nodes.{tree_at, trees_of}
 use Rattle.skeleton_graph.proofs.TreeLaws.{trees_size}
 use Rattle.over_eval.specs.Live.{live}
-use Rattle.over_eval.proofs.NumberLaws.{live_from, live_one, live_more, live_all, tree_there, live_read}
+use Rattle.over_eval.proofs.NumberLaws.{live_from, live_one, live_more, live_all, tree_there, live_read, live_long}
 use Rattle.over_eval.proofs.live_numbers.live.Goals as goal
 
 pub index-requires : goal.index-requires
 index-requires g c =
     let trees = trees_of c.args.graph.now.nodes in
-    omega (arith, c.loop-number-test.true, c.len-number-end.ensures, trees_size c.args.graph.now.nodes, length-map trees (live c.args.task.now), ap length c.in_ok-lives.ensures)
+    omega (arith, c.loop-number-test.true, c.len-number-end.ensures, trees_size c.args.graph.now.nodes, live_long c.args.task.now trees c.in_ok-lives.lives.items c.in_ok-lives.ensures)
 
 pub loop-number-preserved : goal.loop-number-preserved
 loop-number-preserved g c =

@@ -1,4 +1,4 @@
-use Rattle.std.proofs.Common.{◌≡◌, sym, ap}
+use Rattle.std.proofs.Common.{sym, ap}
 use Rattle.std.specs.Prelude.{unwrap_or}
 use Rattle.query_core.specs.Tree as t
 use Rattle.query_core.specs.View.{tree}
