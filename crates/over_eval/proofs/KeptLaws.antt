@@ -1,8 +1,7 @@
 -- The abstract rows that are kept of nodes are those of the parts of later nodes.
-use Rattle.std.proofs.Common.{◌≡◌, ℕ, ◌+◌, ◌<◌, arith, true, is_some, List, [], ◌∷◌, ◌++◌, length, Option, Some, None, refl, sym, ap, subst, ◌∙◌, ◌⊎◌, inl, inr, length-append}
+use Rattle.std.proofs.Common.{◌≡◌, ℕ, ◌<◌, ◌≤◌, arith, true, is_some, List, length, Option, Some, None, refl, sym, ap, subst, ◌∙◌, get_or}
 use Rattle.std.specs.Prelude.{slice_get, option_and_then}
-use Rattle.std.proofs.Math.Seq.{get_or-append_seam}
-use Rattle.std.proofs.lemmas.Option.{slice_get-get_or}
+use Rattle.std.proofs.lemmas.Option.{get_or_from_slice_get}
 use Rattle.value_core.specs.declared.value.ColType.{ColType}
 use Rattle.table_core.specs.declared.task.TaskParts.{TaskParts}
 use Rattle.query_core.specs.Tree.{Tree}
@@ -11,7 +10,6 @@ use Rattle.skeleton_graph.specs.Nodes.{kind_tree, child_tree, tree_at, trees_of,
 use Rattle.skeleton_graph.specs.declared.node.Kind.{Kind}
 use Rattle.skeleton_graph.specs.declared.node.Kind.TheVariants as kind
 use Rattle.skeleton_graph.specs.declared.node.SkelNode.{SkelNode}
-use Rattle.skeleton_graph.proofs.ChainLaws.{get_left}
 use Rattle.skeleton_graph.proofs.TreeLaws.{tree_made}
 use Rattle.over_eval.specs.Kept.{kept_over, AreKept}
 use Rattle.over_eval.specs.Over.{AbsRow, over}
@@ -39,7 +37,7 @@ kept_is task nodes kept (Some number) are below used there = ap (option_and_then
 pub overs_kept : (task : TaskParts) (nodes : List SkelNode) (types : List (List ColType)) (kept : List (Option (List AbsRow))) (k : ℕ) (node : SkelNode) (skeleton : Tree)
     → IsGraph nodes types → ((user child : ℕ) → left_of nodes user ≡ Some child → is_some (first_use_of nodes child) ≡ true)
     → ((user child : ℕ) → right_of nodes user ≡ Some child → is_some (first_use_of nodes child) ≡ true)
-    → AreKept task nodes kept → k ≡ length kept → slice_get nodes k ≡ Some node → skeleton ≡ tree_at (trees_of nodes) k
+    → AreKept task nodes kept → k ≤ length kept → slice_get nodes k ≡ Some node → skeleton ≡ tree_at (trees_of nodes) k
     → AreOversOf task skeleton (kept_over kept node.left) (kept_over kept node.right)
 overs_kept task nodes types kept k node skeleton graph lefts_used rights_used are size is is_skeleton =
     let trees = trees_of nodes in
@@ -47,33 +45,15 @@ overs_kept task nodes types kept k node skeleton graph lefts_used rights_used ar
     let left_is : left_of nodes k ≡ node.left = ap (option_and_then (λ (n : SkelNode). n.left)) is in
     let right_is : right_of nodes k ≡ node.right = ap (option_and_then (λ (n : SkelNode). n.right)) is in
     let lefts : is_some node.left ≡ true → kept_over kept node.left ≡ over task (child_tree trees node.left) =
-    kept_is task nodes kept node.left are (λ n e. subst (λ m. n < m) size (graph.lefts k n (left_is ∙ e))) (λ n e. lefts_used k n (left_is ∙ e)) in
+    kept_is task nodes kept node.left are (λ n e. omega (arith, size, graph.lefts k n (left_is ∙ e))) (λ n e. lefts_used k n (left_is ∙ e)) in
     let rights : is_some node.right ≡ true → kept_over kept node.right ≡ over task (child_tree trees node.right) =
-    kept_is task nodes kept node.right are (λ n e. subst (λ m. n < m) size (graph.rights k n (right_is ∙ e))) (λ n e. rights_used k n (right_is ∙ e)) in
+    kept_is task nodes kept node.right are (λ n e. omega (arith, size, graph.rights k n (right_is ∙ e))) (λ n e. rights_used k n (right_is ∙ e)) in
     subst (λ s. AreOversOf task s (kept_over kept node.left) (kept_over kept node.right)) (sym made)
     (overs_of task node.kind (child_tree trees node.left) (child_tree trees node.right) node.left node.right _ _ (graph.shaped k node is) lefts rights)
 
--- the last of some elements
-last_is : {X : Type 0} (xs : List X) (x : X) (k : ℕ) → k ≡ length xs → slice_get (xs ++ x ∷ []) k ≡ Some x
-last_is xs x k is =
-    let size = length-append xs (x ∷ []) in
-    rw is (slice_get-get_or (xs ++ x ∷ []) (length xs) x (omega (arith, size)) ∙ ap Some (get_or-append_seam xs x [] x))
-
--- a number below one more than another is below it or is it
-below_or_is : (n m : ℕ) → n < m + 1 → (n < m) ⊎ (n ≡ m)
-below_or_is n m below = grind arith
-
--- the rows of one node more are kept, where it is a part of another
-pub kept_more : (task : TaskParts) (nodes : List SkelNode) (kept : List (Option (List AbsRow))) (k : ℕ) (node : SkelNode) (rows : Option (List AbsRow)) → AreKept task nodes kept → k ≡ length kept
-    → slice_get nodes k ≡ Some node → (is_some node.first_use ≡ true → rows ≡ over task (tree_at (trees_of nodes) k)) → AreKept task nodes (kept ++ rows ∷ [])
-kept_more task nodes kept k node rows are size is new number below used =
-    let longer : length (kept ++ rows ∷ []) ≡ length kept + 1 = length-append kept (rows ∷ []) in
-    let within : number < length kept + 1 = omega (arith, longer, below) in
-    which (below_or_is number (length kept) within)
-  where
-    which : (number < length kept) ⊎ (number ≡ length kept) → slice_get (kept ++ rows ∷ []) number ≡ Some (over task (tree_at (trees_of nodes) number))
-    which (inl earlier) = get_left kept (rows ∷ []) number earlier ∙ are number earlier used
-    which (inr last) =
-        let here : number ≡ k = last ∙ sym size in
-        let same : first_use_of nodes number ≡ node.first_use = ap (first_use_of nodes) here ∙ ap (option_and_then (λ (n : SkelNode). n.first_use)) is in
-        last_is kept rows number last ∙ ap Some (new (ap is_some (sym same) ∙ used) ∙ ap (λ n. over task (tree_at (trees_of nodes) n)) (sym here))
+-- the rows that are kept of a node that is a part of another are its rows
+pub kept_read : (task : TaskParts) (nodes : List SkelNode) (kept : List (Option (List AbsRow))) (k : ℕ) (node : SkelNode) (d : Option (List AbsRow)) → AreKept task nodes kept → k < length kept
+    → slice_get nodes k ≡ Some node → is_some node.first_use ≡ true → get_or kept k d ≡ over task (tree_at (trees_of nodes) k)
+kept_read task nodes kept k node d are within is used =
+    let same : first_use_of nodes k ≡ node.first_use = ap (option_and_then (λ (n : SkelNode). n.first_use)) is in
+    get_or_from_slice_get kept k (over task (tree_at (trees_of nodes) k)) d (are k within (ap is_some same ∙ used))

@@ -1,12 +1,12 @@
-ghost use Rattle.std.specs.Prelude.{◌≡◌, ◌∷◌, ◌++◌, [], true, is_some, option_copied, if◌then◌else◌, IfOk, OnOk};
+ghost use Rattle.std.specs.Prelude.{◌≡◌, ◌<◌, ◌≤◌, ◌∷◌, ◌++◌, [], length, map, true, is_some, option_copied, if◌then◌else◌, IfOk, OnOk};
 ghost use Rattle.table_core.specs.Rows.{types_of};
 ghost use Rattle.query_core.specs.Grammar.{maps, skeletons};
 ghost use Rattle.query_core.specs.Meaning.{columns};
 ghost use Rattle.query_core.specs.View.{tree};
-ghost use Rattle.skeleton_graph.specs.Nodes.{trees_of};
-ghost use Rattle.over_eval.specs.Kept.{kept_over};
+ghost use Rattle.skeleton_graph.specs.Nodes.{tree_at, trees_of, first_use_of};
+ghost use Rattle.over_eval.specs.Kept.{kept_over, AreKept};
 ghost use Rattle.over_eval.specs.Laws.{live_numbers};
-ghost use Rattle.over_eval.specs.Live.{serves_by};
+ghost use Rattle.over_eval.specs.Live.{serves_by, live};
 ghost use Rattle.over_eval.specs.Over.{over};
 ghost use Rattle.over_eval.specs.Parts.{AreOversOf};
 
@@ -15,11 +15,16 @@ use crate::row::AbsRow;
 use crate::serve::serves;
 use crate::tree_over::over_node;
 use query_core::{Node, node_types};
+use rayon::prelude::*;
 use skeleton_graph::{Graph, SkelNode};
 use sqlite_items::Items;
 use std::alloc::Global;
+use std::thread::Threads;
 use table_core::Task;
 use value_core::OutOfMemory;
+
+// The fewest tests that are worth a thread of their own.
+const LEAST_TESTS: usize = 16;
 
 // The rows that are kept of a child.
 fn kept_over(kept: &[Option<Items<AbsRow>>], child: Option<u32>) -> Option<&[AbsRow]>
@@ -78,6 +83,93 @@ fn is_live(
     }
 }
 
+// The abstract rows to keep of a node: those of a part of another.
+fn rows_to_keep(
+    alloc: Global,
+    task: &Task,
+    graph: &Graph,
+    kept: &[Option<Items<AbsRow>>],
+    number: u32,
+) -> Result<Option<Items<AbsRow>>, OutOfMemory>
+    requires number { number < length graph.now.nodes }
+    requires below { number ≤ length kept.now }
+    requires kept { AreKept task.now graph.now.nodes kept.now }
+    ensures { IfOk result (λ rows. is_some (first_use_of graph.now.nodes number) ≡ true → rows ≡ over task.now (tree_at (trees_of graph.now.nodes) number)) }
+{
+    graph.is_ordered();
+    graph.children_are_used();
+    let node = graph.node(number);
+    if node.first_use.is_none() {
+        return Ok(None);
+    }
+    let skeleton = graph.tree(alloc, number)?;
+    over_kept(alloc, task, &skeleton, node, kept)
+}
+
+// The abstract rows that are kept of all nodes.
+fn kept_of_all(
+    alloc: Global,
+    task: &Task,
+    graph: &Graph,
+) -> Result<Vec<Option<Items<AbsRow>>>, OutOfMemory>
+    ensures size { IfOk result (λ kept. length kept.items ≡ length graph.now.nodes) }
+    ensures kept { IfOk result (λ kept. AreKept task.now graph.now.nodes kept.items) }
+{
+    let mut kept = Vec::new(alloc);
+    for number in 0..graph.len() {
+        kept.push(rows_to_keep(alloc, task, graph, kept.as_slice(), number)?)?;
+    }
+    Ok(kept)
+}
+
+// Whether the skeleton of a number is live. The rows that are kept of it aren't made again.
+fn is_live_at(
+    alloc: Global,
+    task: &Task,
+    graph: &Graph,
+    kept: &[Option<Items<AbsRow>>],
+    number: u32,
+) -> Result<bool, OutOfMemory>
+    requires number { number < length graph.now.nodes }
+    requires there { number < length kept.now }
+    requires kept { AreKept task.now graph.now.nodes kept.now }
+    ensures { IfOk result (λ b. b ≡ live task.now (tree_at (trees_of graph.now.nodes) number)) }
+{
+    graph.is_ordered();
+    graph.children_are_used();
+    let node = graph.node(number);
+    let skeleton = graph.tree(alloc, number)?;
+    if node.first_use.is_some() {
+        return is_live(alloc, task, &skeleton, &kept[number as usize]);
+    }
+    let rows = over_kept(alloc, task, &skeleton, node, kept)?;
+    is_live(alloc, task, &skeleton, &rows)
+}
+
+// Of each skeleton whether it is live, tested in parallel.
+fn are_live<R: Threads + Sync>(
+    rt: &R,
+    alloc: Global,
+    task: &Task,
+    graph: &Graph,
+    kept: &[Option<Items<AbsRow>>],
+) -> Result<Vec<bool>, OutOfMemory>
+    requires size { length kept.now ≡ length graph.now.nodes }
+    requires kept { AreKept task.now graph.now.nodes kept.now }
+    ensures { IfOk result (λ lives. lives.items ≡ map (live task.now) (trees_of graph.now.nodes)) }
+{
+    (0..graph.len())
+        .into_par_iter()
+        .with_min_len(LEAST_TESTS)
+        .map(
+            |number: u32| -> Result<bool, OutOfMemory>
+                requires { (number < length graph.now.nodes) × (number < length kept.now) × AreKept task.now graph.now.nodes kept.now }
+                ensures { IfOk result (λ b. b ≡ live task.entry.now (tree_at (trees_of graph.entry.now.nodes) number)) }
+            { is_live_at(alloc, task, graph, kept, number) },
+        )
+        .collect::<Result<Vec<bool>, OutOfMemory>>(rt, alloc)?
+}
+
 // Appends a number, where it is wanted.
 fn push_if(numbers: &mut Vec<u32>, number: u32, wanted: bool) -> Result<(), OutOfMemory>
     ensures { OnOk result (numbers.new.items ≡ numbers.old.items ++ (if wanted then number ∷ [] else [])) }
@@ -88,34 +180,23 @@ fn push_if(numbers: &mut Vec<u32>, number: u32, wanted: bool) -> Result<(), OutO
     Ok(())
 }
 
-// The rows to keep of a node: those of a part of another.
-fn rows_to_keep(node: &SkelNode, rows: Option<Items<AbsRow>>) -> Option<Items<AbsRow>>
-    ensures { is_some node.now.first_use ≡ true → result ≡ rows }
-{
-    match node.first_use {
-        Some(_) => rows,
-        None => None,
-    }
-}
-
 /// The numbers of the live skeletons, ascending. What is not live has no answer.
 ///
-/// The abstract rows of a part are found once, for all skeletons that stand on it.
-pub fn live(alloc: Global, task: &Task, graph: &Graph) -> Result<Vec<u32>, OutOfMemory>
+/// The abstract rows of a part are found once, for all skeletons that stand on it. The tests of the skeletons run in parallel.
+pub fn live<R: Threads + Sync>(
+    rt: &R,
+    alloc: Global,
+    task: &Task,
+    graph: &Graph,
+) -> Result<Vec<u32>, OutOfMemory>
     requires { trees_of graph.now.nodes ≡ skeletons task.now }
     ensures { IfOk result (λ numbers. numbers.items ≡ live_numbers task.now) }
 {
-    graph.is_ordered();
-    graph.children_are_used();
+    let kept = kept_of_all(alloc, task, graph)?;
+    let lives = are_live(rt, alloc, task, graph, kept.as_slice())?;
     let mut numbers = Vec::new(alloc);
-    let mut kept = Vec::new(alloc);
     for number in 0..graph.len() {
-        let node = graph.node(number);
-        let skeleton = graph.tree(alloc, number)?;
-        let rows = over_kept(alloc, task, &skeleton, node, kept.as_slice())?;
-        let lives = is_live(alloc, task, &skeleton, &rows)?;
-        push_if(&mut numbers, number, lives)?;
-        kept.push(rows_to_keep(node, rows))?;
+        push_if(&mut numbers, number, lives[number as usize])?;
     }
     Ok(numbers)
 }

@@ -13,6 +13,7 @@ use predicate_core::Pred;
 use query_core::{Agg, Node, Pairing, node_types};
 use skeleton_graph::{Graph, GraphFault, build};
 use std::alloc::Global;
+use std::thread::Threads;
 use table_core::Task;
 
 const SHAPE: Shape = Shape {
@@ -82,17 +83,22 @@ fn trees(rt: &impl Print, alloc: Global, task: &Task) -> Result<(), Failed> {
 }
 
 // The jobs of a search of the live skeletons.
-fn planned(rt: &impl Print, alloc: Global, task: &Task, graph: Graph) -> Result<(), Failed>
+fn planned<R: Print + Threads + Sync>(
+    rt: &R,
+    alloc: Global,
+    task: &Task,
+    graph: Graph,
+) -> Result<(), Failed>
     requires { trees_of graph.nodes ≡ skeletons task.now }
 {
-    let roots = live(alloc, task, &graph)?;
+    let roots = live(rt, alloc, task, &graph)?;
     let plan = Plan::new(alloc, task, graph, roots)?;
     println!(rt; "{:?}", plan.jobs())?;
     Ok(())
 }
 
 // Those of the graph of a task.
-fn jobs(rt: &impl Print, alloc: Global, task: &Task) -> Result<(), Failed> {
+fn jobs<R: Print + Threads + Sync>(rt: &R, alloc: Global, task: &Task) -> Result<(), Failed> {
     match build(alloc, task) {
         Ok(graph) => planned(rt, alloc, task, graph),
         Err(GraphFault::TooMany { .. }) => Err(Failed::BadSample),
@@ -100,7 +106,7 @@ fn jobs(rt: &impl Print, alloc: Global, task: &Task) -> Result<(), Failed> {
     }
 }
 
-pub fn samples(rt: &impl Print, alloc: Global) -> Result<(), Failed> {
+pub fn samples<R: Print + Threads + Sync>(rt: &R, alloc: Global) -> Result<(), Failed> {
     trees(rt, alloc, &task(alloc, &SHAPE)?)?;
     jobs(rt, alloc, &task(alloc, &TWO_LIVE)?)
 }

@@ -17,6 +17,7 @@ use rank_core::Ranked;
 use skeleton_graph::{Graph, GraphFault, above_has_below, build};
 use sql_print::text;
 use std::alloc::Global;
+use std::thread::Threads;
 use table_core::Task;
 
 // The end of a run that wrote the text of so many answers.
@@ -42,7 +43,12 @@ pub enum Engine {
 }
 
 // The answers of a task by a search of its live skeletons.
-fn searched(alloc: Global, task: &Task, graph: Graph) -> Result<Vec<Ranked>, SearchEnd>
+fn searched<R: Threads + Sync>(
+    rt: &R,
+    alloc: Global,
+    task: &Task,
+    graph: Graph,
+) -> Result<Vec<Ranked>, SearchEnd>
     requires { trees_of graph.nodes ≡ skeletons task.now }
     ensures found { IfOk result (λ list. map ranked_query list.items ≡ answers task.now) }
     ensures within { IfOk result (λ list. need task.now ≤ task.now.budget) }
@@ -50,21 +56,27 @@ fn searched(alloc: Global, task: &Task, graph: Graph) -> Result<Vec<Ranked>, Sea
 {
     what_is_not_live_has_no_answer(task.parts());
     above_has_below(task.parts(), &graph);
-    let roots = live(alloc, task, &graph)?;
+    let roots = live(rt, alloc, task, &graph)?;
     let plan = Plan::new(alloc, task, graph, roots)?;
     search(alloc, &plan)
 }
 
 impl Engine {
     // The answers of a task over the graph of its skeletons, best first.
-    fn answers(self, alloc: Global, task: &Task, graph: Graph) -> Result<Vec<Ranked>, SearchEnd>
+    fn answers<R: Threads + Sync>(
+        self,
+        rt: &R,
+        alloc: Global,
+        task: &Task,
+        graph: Graph,
+    ) -> Result<Vec<Ranked>, SearchEnd>
         requires { trees_of graph.nodes ≡ skeletons task.now }
         ensures found { IfOk result (λ list. map ranked_query list.items ≡ answers task.now) }
         ensures within { IfOk result (λ list. is_allowed (lists_plainly self) task.now ≡ true) }
         ensures over { result ≡ Err SearchEnd.OverBudget → is_allowed (lists_plainly self) task.now ≡ false }
     {
         match self {
-            Engine::Search => searched(alloc, task, graph),
+            Engine::Search => searched(rt, alloc, task, graph),
             Engine::Plain => Ok(plain_over(alloc, task, &graph)?),
         }
     }
@@ -85,11 +97,18 @@ fn write_answers<K: Sink>(alloc: Global, task: &Task, list: &[Ranked], out: &mut
 }
 
 // Lists the answers of a task over the graph of its skeletons and writes its text, where the budget allows.
-fn list<K: Sink>(alloc: Global, task: &Task, graph: Graph, engine: Engine, out: &mut K) -> End
+fn list<R: Threads + Sync, K: Sink>(
+    rt: &R,
+    alloc: Global,
+    task: &Task,
+    graph: Graph,
+    engine: Engine,
+    out: &mut K,
+) -> End
     requires { trees_of graph.nodes ≡ skeletons task.now }
     ensures { Answers true (is_allowed (lists_plainly engine) task.now) task.now (K.written out.old) (K.written out.new) (K.faults out.old) (K.faults out.new) result }
 {
-    match engine.answers(alloc, task, graph) {
+    match engine.answers(rt, alloc, task, graph) {
         Ok(answers) => write_answers(alloc, task, answers.as_slice(), out),
         Err(SearchEnd::OverBudget) => End::OverBudget,
         Err(SearchEnd::OutOfMemory) => End::OutOfMemory,
@@ -97,11 +116,17 @@ fn list<K: Sink>(alloc: Global, task: &Task, graph: Graph, engine: Engine, out: 
 }
 
 /// Lists the answers of a task and writes its text, where it has few enough skeletons and the budget allows.
-pub fn answer<K: Sink>(alloc: Global, task: &Task, engine: Engine, out: &mut K) -> End
+pub fn answer<R: Threads + Sync, K: Sink>(
+    rt: &R,
+    alloc: Global,
+    task: &Task,
+    engine: Engine,
+    out: &mut K,
+) -> End
     ensures { Answers (has_few_skeletons task.now) (is_allowed (lists_plainly engine) task.now) task.now (K.written out.old) (K.written out.new) (K.faults out.old) (K.faults out.new) result }
 {
     match build(alloc, task) {
-        Ok(graph) => list(alloc, task, graph, engine, out),
+        Ok(graph) => list(rt, alloc, task, graph, engine, out),
         Err(GraphFault::TooMany { .. }) => End::TooMany,
         Err(GraphFault::OutOfMemory) => End::OutOfMemory,
     }

@@ -39,7 +39,8 @@ fn end_of(unread: TaskEnd) -> End
 }
 
 // Reads the task of a file, lists its answers and writes its text.
-fn run_file<F: Folder, K: Sink>(
+fn run_file<R: Threads + Sync, F: Folder, K: Sink>(
+    rt: &R,
     alloc: Global,
     file: &Bytes,
     engine: Engine,
@@ -50,13 +51,14 @@ fn run_file<F: Folder, K: Sink>(
     ensures still { UnlessReadFault result ((n : List ℕ) → F.faults folder.new n ≡ F.faults folder.old n) }
 {
     match read_task(alloc, folder, file.as_slice()) {
-        Ok(task) => answer(alloc, &task, engine, out),
+        Ok(task) => answer(rt, alloc, &task, engine, out),
         Err(unread) => end_of(unread),
     }
 }
 
 // Does what is asked for. For now no number of workers changes anything.
-fn run_request<F: Folder, K: Sink>(
+fn run_request<R: Threads + Sync, F: Folder, K: Sink>(
+    rt: &R,
     alloc: Global,
     request: &Request,
     folder: &mut F,
@@ -66,13 +68,19 @@ fn run_request<F: Folder, K: Sink>(
     ensures still { UnlessReadFault result ((n : List ℕ) → F.faults folder.new n ≡ F.faults folder.old n) }
 {
     match request {
-        Request::Run { file, .. } => run_file(alloc, file, Engine::Search, folder, out),
-        Request::Plain { file } => run_file(alloc, file, Engine::Plain, folder, out),
+        Request::Run { file, .. } => run_file(rt, alloc, file, Engine::Search, folder, out),
+        Request::Plain { file } => run_file(rt, alloc, file, Engine::Plain, folder, out),
     }
 }
 
 // Runs what the words ask for.
-fn run<F: Folder, K: Sink>(alloc: Global, words: &[Bytes], folder: &mut F, out: &mut K) -> End
+fn run<R: Threads + Sync, F: Folder, K: Sink>(
+    rt: &R,
+    alloc: Global,
+    words: &[Bytes],
+    folder: &mut F,
+    out: &mut K,
+) -> End
     ensures runs { RunsWords (F.told folder.old) (F.faults folder.old) (F.faults folder.new) (command words.now) (K.written out.old) (K.written out.new) (K.faults out.old) (K.faults out.new) result }
     ensures still { UnlessReadFault result ((n : List ℕ) → F.faults folder.new n ≡ F.faults folder.old n) }
 {
@@ -80,7 +88,7 @@ fn run<F: Folder, K: Sink>(alloc: Global, words: &[Bytes], folder: &mut F, out: 
         return End::OutOfMemory;
     };
     match request {
-        Some(request) => run_request(alloc, &request, folder, out),
+        Some(request) => run_request(rt, alloc, &request, folder, out),
         None => End::Usage,
     }
 }
@@ -129,9 +137,8 @@ pub fn scythe<R: Threads + Sync, F: Folder, K: Sink, E: Sink, G: Gate + Sync>(
     ensures err_front { GainedFront (E.written err.old) (E.written err.new) (line result) }
     ensures err_whole { Gained (E.written err.old) (E.written err.new) (line result) ⊎ Rose (E.faults err.old) (E.faults err.new) }
 {
-    let _ = rt;
     let _ = gate;
-    let end = run(alloc, words, folder, out);
+    let end = run(rt, alloc, words, folder, out);
     let _ = write_line(err, &end);
     end
 }

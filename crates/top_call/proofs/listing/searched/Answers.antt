@@ -9,13 +9,13 @@ use Rattle.top_call.proofs.NeedLaws.{live_ascend, live_within, plan_finds, need_
 use Rattle.top_call.proofs.listing.searched.Goals as goal
 
 pub new-requires-clause-ascend : goal.new-requires-clause-ascend
-new-requires-clause-ascend c = live_ascend c.args.task.now c.in_ok-roots.roots.items c.in_ok-roots.ensures
+new-requires-clause-ascend g c = live_ascend c.args.task.now c.in_ok-roots.roots.items c.in_ok-roots.ensures
 
 pub new-requires-clause-within : goal.new-requires-clause-within
-new-requires-clause-within c = live_within c.args.task.now c.args.graph.nodes c.in_ok-roots.roots.items c.requires c.in_ok-roots.ensures
+new-requires-clause-within g c = live_within c.args.task.now c.args.graph.nodes c.in_ok-roots.roots.items c.requires c.in_ok-roots.ensures
 
 pub returns-clause-found : goal.returns-clause-found
-returns-clause-found c =
+returns-clause-found g c =
     let task = c.args.task.now in
     let live_law = subst AnswersOfLive c.parts.ensures.parts c.what_is_not_live_has_no_answer.ensures.live in
     let finds = ap plan_answers c.in_ok-plan.ensures ∙ plan_finds task c.args.graph.nodes c.in_ok-roots.roots.items c.requires c.in_ok-roots.ensures live_law in
@@ -23,7 +23,7 @@ returns-clause-found c =
     (λ list e. e ∙ ap (ascending comes_before) finds) c.search.ensures.found
 
 pub returns-clause-within : goal.returns-clause-within
-returns-clause-within c =
+returns-clause-within g c =
     let task = c.args.task.now in
     let roots = c.in_ok-roots.roots.items in
     let nodes = c.args.graph.nodes in
@@ -33,7 +33,7 @@ returns-clause-within c =
     ok_more c.search.result (λ list. plan_need c.in_ok-plan.plan ≤ c.in_ok-plan.plan.task.budget) (λ list. need task ≤ task.budget) (λ list le. omega (arith, needs, budget, le)) c.search.ensures.within
 
 pub returns-clause-over : goal.returns-clause-over
-returns-clause-over c =
+returns-clause-over g c =
     let task = c.args.task.now in
     let roots = c.in_ok-roots.roots.items in
     let nodes = c.args.graph.nodes in
