@@ -61,22 +61,30 @@ fn searched<R: Threads + Sync>(
     search(alloc, &plan)
 }
 
-impl Engine {
+/// A listing of answers: the threads that it may use, and how it finds them.
+#[derive(Drop)]
+pub struct Listing<'a, R> {
+    pub rt: &'a R,
+    pub engine: Engine,
+}
+
+impl<'a, R: Threads + Sync> Listing<'a, R> {
+    /// A listing by an engine.
+    pub fn of(rt: &'a R, engine: Engine) -> Listing<'a, R>
+        ensures { result.engine ≡ engine }
+    {
+        Listing { rt, engine }
+    }
+
     // The answers of a task over the graph of its skeletons, best first.
-    fn answers<R: Threads + Sync>(
-        self,
-        rt: &R,
-        alloc: Global,
-        task: &Task,
-        graph: Graph,
-    ) -> Result<Vec<Ranked>, SearchEnd>
+    fn answers(&self, alloc: Global, task: &Task, graph: Graph) -> Result<Vec<Ranked>, SearchEnd>
         requires { trees_of graph.nodes ≡ skeletons task.now }
         ensures found { IfOk result (λ list. map ranked_query list.items ≡ answers task.now) }
-        ensures within { IfOk result (λ list. is_allowed (lists_plainly self) task.now ≡ true) }
-        ensures over { result ≡ Err SearchEnd.OverBudget → is_allowed (lists_plainly self) task.now ≡ false }
+        ensures within { IfOk result (λ list. is_allowed (lists_plainly self.now.engine) task.now ≡ true) }
+        ensures over { result ≡ Err SearchEnd.OverBudget → is_allowed (lists_plainly self.now.engine) task.now ≡ false }
     {
-        match self {
-            Engine::Search => searched(rt, alloc, task, graph),
+        match self.engine {
+            Engine::Search => searched(self.rt, alloc, task, graph),
             Engine::Plain => Ok(plain_over(alloc, task, &graph)?),
         }
     }
@@ -98,17 +106,16 @@ fn write_answers<K: Sink>(alloc: Global, task: &Task, list: &[Ranked], out: &mut
 
 // Lists the answers of a task over the graph of its skeletons and writes its text, where the budget allows.
 fn list<R: Threads + Sync, K: Sink>(
-    rt: &R,
     alloc: Global,
     task: &Task,
     graph: Graph,
-    engine: Engine,
+    listing: &Listing<'_, R>,
     out: &mut K,
 ) -> End
     requires { trees_of graph.nodes ≡ skeletons task.now }
-    ensures { Answers true (is_allowed (lists_plainly engine) task.now) task.now (K.written out.old) (K.written out.new) (K.faults out.old) (K.faults out.new) result }
+    ensures { Answers true (is_allowed (lists_plainly listing.now.engine) task.now) task.now (K.written out.old) (K.written out.new) (K.faults out.old) (K.faults out.new) result }
 {
-    match engine.answers(rt, alloc, task, graph) {
+    match listing.answers(alloc, task, graph) {
         Ok(answers) => write_answers(alloc, task, answers.as_slice(), out),
         Err(SearchEnd::OverBudget) => End::OverBudget,
         Err(SearchEnd::OutOfMemory) => End::OutOfMemory,
@@ -117,16 +124,15 @@ fn list<R: Threads + Sync, K: Sink>(
 
 /// Lists the answers of a task and writes its text, where it has few enough skeletons and the budget allows.
 pub fn answer<R: Threads + Sync, K: Sink>(
-    rt: &R,
     alloc: Global,
     task: &Task,
-    engine: Engine,
+    listing: &Listing<'_, R>,
     out: &mut K,
 ) -> End
-    ensures { Answers (has_few_skeletons task.now) (is_allowed (lists_plainly engine) task.now) task.now (K.written out.old) (K.written out.new) (K.faults out.old) (K.faults out.new) result }
+    ensures { Answers (has_few_skeletons task.now) (is_allowed (lists_plainly listing.now.engine) task.now) task.now (K.written out.old) (K.written out.new) (K.faults out.old) (K.faults out.new) result }
 {
     match build(alloc, task) {
-        Ok(graph) => list(rt, alloc, task, graph, engine, out),
+        Ok(graph) => list(alloc, task, graph, listing, out),
         Err(GraphFault::TooMany { .. }) => End::TooMany,
         Err(GraphFault::OutOfMemory) => End::OutOfMemory,
     }

@@ -17,7 +17,7 @@ ghost use Rattle.top_call.specs.declared.end.End.TheVariants.{Listed, Empty, Usa
 
 use crate::end::End;
 use crate::line::write_line;
-use crate::listing::{Engine, answer};
+use crate::listing::{Engine, Listing, answer};
 use command_line::{Request, command};
 use io_edge::{Folder, Gate, Sink};
 use std::alloc::Global;
@@ -40,18 +40,17 @@ fn end_of(unread: TaskEnd) -> End
 
 // Reads the task of a file, lists its answers and writes its text.
 fn run_file<R: Threads + Sync, F: Folder, K: Sink>(
-    rt: &R,
     alloc: Global,
     file: &Bytes,
-    engine: Engine,
+    listing: &Listing<'_, R>,
     folder: &mut F,
     out: &mut K,
 ) -> End
-    ensures runs { Runs (F.told folder.old) (F.faults folder.old) (F.faults folder.new) (lists_plainly engine) file.now (K.written out.old) (K.written out.new) (K.faults out.old) (K.faults out.new) result }
+    ensures runs { Runs (F.told folder.old) (F.faults folder.old) (F.faults folder.new) (lists_plainly listing.now.engine) file.now (K.written out.old) (K.written out.new) (K.faults out.old) (K.faults out.new) result }
     ensures still { UnlessReadFault result ((n : List ℕ) → F.faults folder.new n ≡ F.faults folder.old n) }
 {
     match read_task(alloc, folder, file.as_slice()) {
-        Ok(task) => answer(rt, alloc, &task, engine, out),
+        Ok(task) => answer(alloc, &task, listing, out),
         Err(unread) => end_of(unread),
     }
 }
@@ -68,8 +67,12 @@ fn run_request<R: Threads + Sync, F: Folder, K: Sink>(
     ensures still { UnlessReadFault result ((n : List ℕ) → F.faults folder.new n ≡ F.faults folder.old n) }
 {
     match request {
-        Request::Run { file, .. } => run_file(rt, alloc, file, Engine::Search, folder, out),
-        Request::Plain { file } => run_file(rt, alloc, file, Engine::Plain, folder, out),
+        Request::Run { file, .. } => {
+            run_file(alloc, file, &Listing::of(rt, Engine::Search), folder, out)
+        }
+        Request::Plain { file } => {
+            run_file(alloc, file, &Listing::of(rt, Engine::Plain), folder, out)
+        }
     }
 }
 
