@@ -92,6 +92,47 @@ answers_memory true true task old new before now a = a
 answers_memory true false task old new before now a = a
 answers_memory false r task old new before now a = a
 
+answers_usage : (b r : Bool) (task : TaskParts) (old new : Held) (before now : ℕ) → Answers b r task old new before now Usage → ⊥
+answers_usage true true task old new before now a = a
+answers_usage true false task old new before now a = a
+answers_usage false r task old new before now a = a
+
+answers_bad : (b r : Bool) (task : TaskParts) (old new : Held) (before now : ℕ) (fault : TaskFault) → Answers b r task old new before now (BadTask fault) → ⊥
+answers_bad true true task old new before now fault a = a
+answers_bad true false task old new before now fault a = a
+answers_bad false r task old new before now fault a = a
+
+answers_unread : (b r : Bool) (task : TaskParts) (old new : Held) (before now : ℕ) (file : List ℕ) → Answers b r task old new before now (ReadFault file) → ⊥
+answers_unread true true task old new before now file a = a
+answers_unread true false task old new before now file a = a
+answers_unread false r task old new before now file a = a
+
+-- a fact of the task that was read, where that is the one that is told
+when_told : (s : State) (task : TaskParts) (Q : TaskParts → Type 0) → WhenReady s (λ t. task ≡ t) → Q task → WhenReady s Q
+when_told untold task Q is q = tt
+when_told (faulty f) task Q is q = absurd is
+when_told (ready t) task Q is q = subst Q is q
+
+-- what is done with the task of a file is what a run of the file does
+pub runs_ready : (told : Files) (unread unread_now : Counts) (plain : Bool) (file : List ℕ) (old new : Held) (before now : ℕ) (end : End) (task : TaskParts)
+    → WhenReady (task_told told file) (λ t. task ≡ t) → Answers (has_few_skeletons task) (is_allowed plain task) task old new before now end → Runs told unread unread_now plain file old new before now end
+runs_ready told unread unread_now plain file old new before now (Listed n) task is a =
+    when_told (task_told told file) task (λ t. Answers (has_few_skeletons t) (is_allowed plain t) t old new before now (Listed n)) is a
+runs_ready told unread unread_now plain file old new before now Empty task is a =
+    when_told (task_told told file) task (λ t. Answers (has_few_skeletons t) (is_allowed plain t) t old new before now Empty) is a
+runs_ready told unread unread_now plain file old new before now Usage task is a = absurd (answers_usage (has_few_skeletons task) (is_allowed plain task) task old new before now a)
+runs_ready told unread unread_now plain file old new before now (BadTask fault) task is a = absurd (answers_bad (has_few_skeletons task) (is_allowed plain task) task old new before now fault a)
+runs_ready told unread unread_now plain file old new before now (ReadFault name) task is a = absurd (answers_unread (has_few_skeletons task) (is_allowed plain task) task old new before now name a)
+runs_ready told unread unread_now plain file old new before now WriteFault task is a =
+    (when_told (task_told told file) task (λ t. Answers (has_few_skeletons t) (is_allowed plain t) t old new before now WriteFault) is a, (answers_unwritten (has_few_skeletons task) (is_allowed plain task) task old new before now a).1.1)
+runs_ready told unread unread_now plain file old new before now OutOfMemory task is a = answers_memory (has_few_skeletons task) (is_allowed plain task) task old new before now a
+runs_ready told unread unread_now plain file old new before now TooMany task is a =
+    let h = answers_many (has_few_skeletons task) (is_allowed plain task) task old new before now a in
+    (when_told (task_told told file) task (λ t. has_few_skeletons t ≡ false) is h.0, h.1)
+runs_ready told unread unread_now plain file old new before now OverBudget task is a =
+    let h = answers_over (has_few_skeletons task) plain task old new before now a in
+    ((h.0.0, when_told (task_told told file) task (λ t. (has_few_skeletons t ≡ true) × (is_allowed plain t ≡ false)) is h.0.1), h.1)
+
 -- a task whose budget allows a search is answered as one that is listed
 pub allowed_as : (r : Bool) (task : TaskParts) (old new : Held) (before now : ℕ) (end : End) → r ≡ true → Prints task old new before now end → Answers true r task old new before now end
 allowed_as true task old new before now end e printed = printed
