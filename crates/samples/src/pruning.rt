@@ -82,7 +82,7 @@ fn trees(rt: &impl Print, alloc: Global, task: &Task) -> Result<(), Failed> {
     Ok(())
 }
 
-// The jobs of a search of the live skeletons.
+// The live skeletons of a graph, and the jobs of a search of its last node as the only root.
 fn planned<R: Print + Threads + Sync>(
     rt: &R,
     alloc: Global,
@@ -91,7 +91,12 @@ fn planned<R: Print + Threads + Sync>(
 ) -> Result<(), Failed>
     requires { trees_of graph.nodes ≡ skeletons task.now }
 {
-    let roots = live(rt, alloc, task, &graph)?;
+    let numbers = live(rt, alloc, task, &graph)?;
+    println!(rt; "{:?}", numbers.as_slice())?;
+    let mut roots = Vec::new(alloc);
+    if !graph.is_empty() {
+        roots.push(graph.len() - 1)?;
+    }
     let plan = Plan::new(alloc, task, graph, roots)?;
     println!(rt; "{:?}", plan.jobs())?;
     Ok(())
