@@ -24,8 +24,8 @@ use Rattle.fill_core.specs.Offers.{filled_by_all}
 use Rattle.fill_core.specs.Sites.{unary_filled, binary_with}
 use Rattle.fill_core.specs.View.{entry_filled, entries_filled, row_filled, IsPartOf, ArePartsOf}
 use Rattle.fill_core.specs.declared.choice.Choice.{Choice}
-use Rattle.fill_core.specs.declared.row.Entry.{Entry}
-use Rattle.fill_core.specs.declared.row.Row.{Row}
+use Rattle.fill_core.specs.declared.fillings.Entry.{Entry}
+use Rattle.fill_core.specs.declared.fillings.Fillings.{Fillings}
 use Rattle.fill_core.specs.declared.site.Unary.TheVariants as one
 use Rattle.fill_core.specs.declared.site.Binary.TheVariants as two
 
@@ -60,12 +60,12 @@ union_accepted P f types preds rows is_types is_preds is_rows all = rw (is_types
 
 -- what an operator makes of each entry of a row, where the row is the standard fillings of a skeleton
 
-pub over_filters : (task : TaskParts) (row : Row) (child : Tree) (p : Pred) → row_filled row ≡ standard_fillings task child
+pub over_filters : (task : TaskParts) (row : Fillings) (child : Tree) (p : Pred) → row_filled row ≡ standard_fillings task child
     → flat_map (unary_filled task one.Filter row.types) row.entries ≡ standard_fillings task (t.filter child p)
 over_filters task row child p is =
     sym (flat_map-map (filled_filters task) (entry_filled row.types) row.entries) ∙ ap (flat_map (filled_filters task)) is ∙ sym (filter_filled task child p)
 
-pub over_groups : (task : TaskParts) (row : Row) (child : Tree) (keys : List ℕ) (agg : Agg) → row_filled row ≡ standard_fillings task child
+pub over_groups : (task : TaskParts) (row : Fillings) (child : Tree) (keys : List ℕ) (agg : Agg) → row_filled row ≡ standard_fillings task child
     → flat_map (λ e. filled_groups keys agg (entry_filled row.types e)) row.entries ≡ standard_fillings task (t.group child keys agg)
 over_groups task row child keys agg is =
     sym (flat_map-map (filled_groups keys agg) (entry_filled row.types) row.entries) ∙ ap (flat_map (filled_groups keys agg)) is ∙ sym (group_filled task child keys agg)
@@ -77,7 +77,7 @@ of_rows f left right lefts rights =
     (λ a. sym (flat_map-map (f (entry_filled left a)) (entry_filled right) rights))
     ∙ sym (flat_map-map (λ a. flat_map (f a) (entries_filled right rights)) (entry_filled left) lefts)
 
-pub between_pairs : (task : TaskParts) (kind : Pairing) (left right : Row) (a b : Tree) (p : Pred) → row_filled left ≡ standard_fillings task a → row_filled right ≡ standard_fillings task b
+pub between_pairs : (task : TaskParts) (kind : Pairing) (left right : Fillings) (a b : Tree) (p : Pred) → row_filled left ≡ standard_fillings task a → row_filled right ≡ standard_fillings task b
     → flat_map (binary_with task (two.Pair kind) left.types right.types right.entries) left.entries ≡ standard_fillings task (t.pair kind a b p)
 between_pairs task kind left right a b p is_left is_right =
     of_rows (filled_pairs task kind) left.types right.types left.entries right.entries
@@ -85,7 +85,7 @@ between_pairs task kind left right a b p is_left is_right =
     ∙ ap (of_each_filled (filled_pairs task kind) (standard_fillings task a)) is_right
     ∙ sym (pair_filled task kind a b p)
 
-pub between_unions : (task : TaskParts) (kind : Uniting) (left right : Row) (a b : Tree) → row_filled left ≡ standard_fillings task a → row_filled right ≡ standard_fillings task b
+pub between_unions : (task : TaskParts) (kind : Uniting) (left right : Fillings) (a b : Tree) → row_filled left ≡ standard_fillings task a → row_filled right ≡ standard_fillings task b
     → flat_map (binary_with task (two.Unite kind) left.types right.types right.entries) left.entries ≡ standard_fillings task (t.unite kind a b)
 between_unions task kind left right a b is_left is_right =
     of_rows (unions_on kind) left.types right.types left.entries right.entries
@@ -95,26 +95,26 @@ between_unions task kind left right a b is_left is_right =
 
 -- what a node makes of the rows of its parts are the standard fillings of its skeleton
 
-part_row : (task : TaskParts) (child : Tree) (row : Row) (part : Option Row) → part ≡ Some row → IsPartOf task child part → row_filled row ≡ standard_fillings task child
+part_row : (task : TaskParts) (child : Tree) (row : Fillings) (part : Option Fillings) → part ≡ Some row → IsPartOf task child part → row_filled row ≡ standard_fillings task child
 part_row task child row part is own = (subst (IsPartOf task child) is own).0
 
-pub site_filters : (task : TaskParts) (row : Row) (child : Tree) (p : Pred) (skeleton : Tree) (left right : Option Row) → t.filter child p ≡ skeleton → left ≡ Some row → ArePartsOf task skeleton left right
+pub site_filters : (task : TaskParts) (row : Fillings) (child : Tree) (p : Pred) (skeleton : Tree) (left right : Option Fillings) → t.filter child p ≡ skeleton → left ≡ Some row → ArePartsOf task skeleton left right
     → flat_map (unary_filled task one.Filter row.types) row.entries ≡ standard_fillings task skeleton
 site_filters task row child p skeleton left right is is_left parts =
     over_filters task row child p (part_row task child row left is_left (subst (λ s. ArePartsOf task s left right) (sym is) parts)) ∙ ap (standard_fillings task) is
 
-pub site_groups : (task : TaskParts) (row : Row) (child : Tree) (keys : List ℕ) (agg : Agg) (skeleton : Tree) (left right : Option Row) → t.group child keys agg ≡ skeleton → left ≡ Some row → ArePartsOf task skeleton left right
+pub site_groups : (task : TaskParts) (row : Fillings) (child : Tree) (keys : List ℕ) (agg : Agg) (skeleton : Tree) (left right : Option Fillings) → t.group child keys agg ≡ skeleton → left ≡ Some row → ArePartsOf task skeleton left right
     → flat_map (λ e. filled_groups keys agg (entry_filled row.types e)) row.entries ≡ standard_fillings task skeleton
 site_groups task row child keys agg skeleton left right is is_left parts =
     over_groups task row child keys agg (part_row task child row left is_left (subst (λ s. ArePartsOf task s left right) (sym is) parts)) ∙ ap (standard_fillings task) is
 
-pub site_pairs : (task : TaskParts) (kind : Pairing) (a b : Row) (x y : Tree) (p : Pred) (skeleton : Tree) (left right : Option Row) → t.pair kind x y p ≡ skeleton → left ≡ Some a → right ≡ Some b → ArePartsOf task skeleton left right
+pub site_pairs : (task : TaskParts) (kind : Pairing) (a b : Fillings) (x y : Tree) (p : Pred) (skeleton : Tree) (left right : Option Fillings) → t.pair kind x y p ≡ skeleton → left ≡ Some a → right ≡ Some b → ArePartsOf task skeleton left right
     → flat_map (binary_with task (two.Pair kind) a.types b.types b.entries) a.entries ≡ standard_fillings task skeleton
 site_pairs task kind a b x y p skeleton left right is is_left is_right parts =
     let both = subst (λ s. ArePartsOf task s left right) (sym is) parts in
     between_pairs task kind a b x y p (part_row task x a left is_left both.0) (part_row task y b right is_right both.1) ∙ ap (standard_fillings task) is
 
-pub site_unions : (task : TaskParts) (kind : Uniting) (a b : Row) (x y : Tree) (skeleton : Tree) (left right : Option Row) → t.unite kind x y ≡ skeleton → left ≡ Some a → right ≡ Some b → ArePartsOf task skeleton left right
+pub site_unions : (task : TaskParts) (kind : Uniting) (a b : Fillings) (x y : Tree) (skeleton : Tree) (left right : Option Fillings) → t.unite kind x y ≡ skeleton → left ≡ Some a → right ≡ Some b → ArePartsOf task skeleton left right
     → flat_map (binary_with task (two.Unite kind) a.types b.types b.entries) a.entries ≡ standard_fillings task skeleton
 site_unions task kind a b x y skeleton left right is is_left is_right parts =
     let both = subst (λ s. ArePartsOf task s left right) (sym is) parts in

@@ -6,7 +6,7 @@ use Rattle.table_core.specs.declared.task.TaskParts.{TaskParts}
 use Rattle.query_core.specs.Meaning.{input_at, group_types}
 use Rattle.query_core.specs.Filled.{Filled, filled_base, filled_filters, filled_pairs, filled_groups, filled_union}
 use Rattle.fill_core.specs.View.{entry_filled}
-use Rattle.fill_core.specs.declared.row.Entry.{Entry}
+use Rattle.fill_core.specs.declared.fillings.Entry.{Entry}
 use Rattle.fill_core.specs.declared.site.Unary.{Unary}
 use Rattle.fill_core.specs.declared.site.Unary.TheVariants as one
 use Rattle.fill_core.specs.declared.site.Binary.{Binary}

@@ -9,7 +9,7 @@ use crate::bits::left_choices;
 use crate::choice::choices;
 use crate::offer::{Offer, Whole};
 use crate::receiver::Receiver;
-use crate::row::Entry;
+use crate::fillings::Entry;
 use crate::site::Binary;
 use bag_eval::{cross_and_pad_rows, cross_rows, unite_rows};
 use predicate_core::Pred;

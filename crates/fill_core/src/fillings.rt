@@ -1,73 +1,39 @@
-ghost use Rattle.std.specs.Prelude.{◌≡◌, true, option_copied, IfOk};
-ghost use Rattle.query_core.specs.Filled.{standard_fillings};
-ghost use Rattle.query_core.specs.Meaning.{columns};
-ghost use Rattle.query_core.specs.View.{tree};
-ghost use Rattle.table_core.specs.declared.task.TaskParts.{TaskParts};
-ghost use Rattle.fill_core.specs.Sites.{site_filled, site_types};
-ghost use Rattle.fill_core.specs.View.{IsRowOf, ArePartsOf, has_parts};
-
-use crate::keeper::Keeper;
-use crate::row::Row;
-use crate::site::{Binary, Site, Unary};
-use query_core::{Node, Pairing, Uniting};
+use predicate_core::Pred;
 use sqlite_items::Items;
-use std::alloc::Global;
-use table_core::Task;
-use value_core::OutOfMemory;
+use table_core::Tuple;
+use value_core::ColType;
 
-/// The rows of a skeleton's parts: of its left part or its only one, and of its right part.
-#[derive(Clone, Copy, Debug)]
-pub struct Below<'a> {
-    pub left: Option<&'a Row>,
-    pub right: Option<&'a Row>,
+/// One filling of a node: its predicates, from the left part to the right part to the node, and its rows.
+#[derive(Debug, Drop)]
+pub struct Entry {
+    pub preds: Items<Pred>,
+    pub rows: Items<Tuple>,
 }
 
-/// The root of a skeleton over the rows of its parts.
-pub fn site_of<'a>(skeleton: &'a Node, below: &Below<'a>) -> Site<'a>
-    requires parts { has_parts (tree skeleton.now) (option_copied below.now.left) (option_copied below.now.right) ≡ true }
-    ensures filled { (task : TaskParts) → ArePartsOf task (tree skeleton.now) (option_copied below.now.left) (option_copied below.now.right) → site_filled task result ≡ standard_fillings task (tree skeleton.now) }
-    ensures types { (task : TaskParts) → ArePartsOf task (tree skeleton.now) (option_copied below.now.left) (option_copied below.now.right) → site_types task result ≡ columns task.inputs (tree skeleton.now) }
-{
-    match (skeleton, below.left, below.right) {
-        (Node::Base(table), _, _) => Site::Base(*table),
-        (Node::Filter(_, _), Some(child), _) => Site::Over(Unary::Filter, child),
-        (Node::Group(_, keys, agg), Some(child), _) => {
-            Site::Over(Unary::Group(keys.as_slice(), *agg), child)
+/// The standard fillings of a node that have rows, in order, with the types of the columns that they all have.
+#[derive(Debug, Drop)]
+pub struct Fillings {
+    pub types: Items<ColType>,
+    pub entries: Items<Entry>,
+}
+
+impl Fillings {
+    ghost use Rattle.std.specs.Prelude.{◌≡◌, ◌+◌, ◌<◌, None, IfSome};
+    ghost use Rattle.fill_core.specs.View.{weight};
+
+    /// What its weight leaves of a budget: none where it is more.
+    pub fn left_of(&self, budget: u64) -> Option<u64>
+        ensures left { IfSome result (λ left. left + weight self.now ≡ budget) }
+        ensures passed { result ≡ None → budget < weight self.now }
+    {
+        let mut left = budget;
+        for entry in self.entries.as_slice() {
+            let rows = entry.rows.len() as u64;
+            if left <= rows {
+                return None;
+            }
+            left = left - rows - 1;
         }
-        (Node::Join(_, _, _), Some(left), Some(right)) => {
-            Site::Between(Binary::Pair(Pairing::Join), left, right)
-        }
-        (Node::Left(_, _, _), Some(left), Some(right)) => {
-            Site::Between(Binary::Pair(Pairing::Left), left, right)
-        }
-        (Node::UnionAll(_, _), Some(left), Some(right)) => {
-            Site::Between(Binary::Unite(Uniting::All), left, right)
-        }
-        (Node::Union(_, _), Some(left), Some(right)) => {
-            Site::Between(Binary::Unite(Uniting::Firsts), left, right)
-        }
-        _ => unreachable!(),
+        Some(left)
     }
-}
-
-/// The row of a skeleton over the rows of its parts: its standard fillings that have rows, in order.
-#[tactic(auto, using(crate::proofs::SiteLaws::singles))]
-pub fn fill_node(
-    alloc: Global,
-    task: &Task,
-    skeleton: &Node,
-    below: &Below<'_>,
-) -> Result<Row, OutOfMemory>
-    requires { ArePartsOf task.now (tree skeleton.now) (option_copied below.now.left) (option_copied below.now.right) }
-    ensures { IfOk result (λ row. IsRowOf task.now (tree skeleton.now) row) }
-{
-    let site = site_of(skeleton, below);
-    let types = site.types(alloc, task)?;
-    let mut entries = Vec::new(alloc);
-    let keeper = Keeper {
-        types: types.as_slice(),
-    };
-    site.walk(alloc, task, &keeper, &mut entries)?;
-    let entries = Items::from_vec(entries);
-    Ok(Row { types, entries })
 }

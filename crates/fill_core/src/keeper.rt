@@ -2,7 +2,7 @@ use crate::bits::masked_rows;
 use crate::choice::Choice;
 use crate::offer::Offer;
 use crate::receiver::Receiver;
-use crate::row::Entry;
+use crate::fillings::Entry;
 use predicate_core::Pred;
 use sqlite_items::Items;
 use std::alloc::Global;

@@ -7,7 +7,7 @@ ghost use Rattle.fill_core.specs.View.{entry_filled};
 use crate::choice::filter_choices;
 use crate::offer::{Offer, Whole};
 use crate::receiver::Receiver;
-use crate::row::Entry;
+use crate::fillings::Entry;
 use crate::site::Unary;
 use bag_eval::group_tuples;
 use query_core::Agg;

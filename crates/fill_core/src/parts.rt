@@ -1,9 +1,9 @@
 ghost use Rattle.std.specs.Prelude.{◌≡◌, Some, None, option_copied, IfOk};
 ghost use Rattle.query_core.specs.View.{tree};
-ghost use Rattle.fill_core.specs.View.{IsRowOf, ArePartsOf};
+ghost use Rattle.fill_core.specs.View.{AreFillingsOf, ArePartsOf};
 
-use crate::fillings::{Below, fill_node};
-use crate::row::Row;
+use crate::fill_over::{Below, fill_over};
+use crate::fillings::Fillings;
 use query_core::Node;
 use std::alloc::Global;
 use table_core::Task;
@@ -12,8 +12,8 @@ use value_core::OutOfMemory;
 /// Rows of a skeleton's parts, filled for it alone.
 #[derive(Debug, Drop)]
 pub struct Parts {
-    pub left: Option<Row>,
-    pub right: Option<Row>,
+    pub left: Option<Fillings>,
+    pub right: Option<Fillings>,
 }
 
 impl Parts {
@@ -30,7 +30,7 @@ impl Parts {
 }
 
 // The row of the only part of a skeleton.
-fn one(left: Row) -> Parts
+fn one(left: Fillings) -> Parts
     ensures { result ≡ record { left = Some left; right = None } }
 {
     Parts {
@@ -40,7 +40,7 @@ fn one(left: Row) -> Parts
 }
 
 // The rows of the two parts of a skeleton.
-fn two(left: Row, right: Row) -> Parts
+fn two(left: Fillings, right: Fillings) -> Parts
     ensures { result ≡ record { left = Some left; right = Some right } }
 {
     Parts {
@@ -82,9 +82,9 @@ pub fn parts_of(alloc: Global, task: &Task, skeleton: &Node) -> Result<Parts, Ou
 
 /// The standard fillings of a skeleton that have rows, in order.
 #[cycle(fill)]
-pub fn fill(alloc: Global, task: &Task, skeleton: &Node) -> Result<Row, OutOfMemory>
-    ensures { IfOk result (λ row. IsRowOf task.now (tree skeleton.now) row) }
+pub fn fill(alloc: Global, task: &Task, skeleton: &Node) -> Result<Fillings, OutOfMemory>
+    ensures { IfOk result (λ row. AreFillingsOf task.now (tree skeleton.now) row) }
 {
     let parts = parts_of(alloc, task, skeleton)?;
-    fill_node(alloc, task, skeleton, &parts.below())
+    fill_over(alloc, task, skeleton, &parts.below())
 }

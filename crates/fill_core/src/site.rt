@@ -7,7 +7,7 @@ use crate::between::{Between, Sides};
 use crate::offer::Whole;
 use crate::over::Over;
 use crate::receiver::Receiver;
-use crate::row::Row;
+use crate::fillings::Fillings;
 use bag_eval::input_rows;
 use query_core::{Agg, Pairing, Uniting, group_types, input_types};
 use sqlite_items::Items;
@@ -33,8 +33,8 @@ pub enum Binary {
 #[derive(Clone, Copy, Debug)]
 pub enum Site<'a> {
     Base(u32),
-    Over(Unary<'a>, &'a Row),
-    Between(Binary, &'a Row, &'a Row),
+    Over(Unary<'a>, &'a Fillings),
+    Between(Binary, &'a Fillings, &'a Fillings),
 }
 
 // The types of an operator's columns, by its part's.

@@ -3,7 +3,7 @@
 use crate::fault::Failed;
 use crate::make::{Shape, Tree, node, task};
 use crate::show::Rows;
-use fill_core::{Row, fill};
+use fill_core::{Fillings, fill};
 use predicate_core::Pred;
 use query_core::Pairing;
 use std::alloc::Global;
@@ -40,7 +40,7 @@ const CASES: &[(Shape, Tree)] = &[
 ];
 
 // Each filling: its predicates and its rows.
-fn listed(rt: &impl Print, row: &Row) -> Result<(), Failed> {
+fn listed(rt: &impl Print, row: &Fillings) -> Result<(), Failed> {
     println!(rt; "{} fillings", row.entries.len())?;
     for entry in row.entries.as_slice() {
         println!(rt;

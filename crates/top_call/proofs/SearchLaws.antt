@@ -20,37 +20,37 @@ use Rattle.skeleton_graph.specs.declared.node.Kind.TheVariants as kind
 use Rattle.skeleton_graph.specs.declared.node.SkelNode.{SkelNode}
 use Rattle.skeleton_graph.proofs.TreeLaws.{tree_made}
 use Rattle.fill_core.specs.Plans.{inner_of, jobs_of, node_of, ChildrenAreInner, PartsComeFirst}
-use Rattle.fill_core.specs.View.{IsRowOf, IsPartOf, ArePartsOf}
+use Rattle.fill_core.specs.View.{AreFillingsOf, IsPartOf, ArePartsOf}
 use Rattle.fill_core.specs.declared.job.Job.{Job}
 use Rattle.fill_core.specs.declared.job.Job.TheVariants.{Inner, Root}
-use Rattle.fill_core.specs.declared.row.Row.{Row}
+use Rattle.fill_core.specs.declared.fillings.Fillings.{Fillings}
 use Rattle.top_call.specs.Search.{part_cost, kept_row, AreKept, ChildrenKept, FilledAreKept, IsKept}
 
 -- a row that may not be there is the one of a skeleton, where it is there
-abbrev MayBeRowOf : TaskParts → Tree → Option Row → Type 0
-MayBeRowOf task tree None = Unit {0}
-MayBeRowOf task tree (Some row) = IsRowOf task tree row
+abbrev MayBeFillingsOf : TaskParts → Tree → Option Fillings → Type 0
+MayBeFillingsOf task tree None = Unit {0}
+MayBeFillingsOf task tree (Some row) = AreFillingsOf task tree row
 
-part_of : (task : TaskParts) (tree : Tree) (row : Option Row) → MayBeRowOf task tree row → is_some row ≡ true → IsPartOf task tree row
+part_of : (task : TaskParts) (tree : Tree) (row : Option Fillings) → MayBeFillingsOf task tree row → is_some row ≡ true → IsPartOf task tree row
 part_of task tree None may there = absurd (false≢true there)
 part_of task tree (Some row) may there = may
 
 -- what is kept of a node is its row
-kept_is : (task : TaskParts) (nodes : List SkelNode) (rows : List (Option Row)) (k : ℕ) → AreKept task nodes rows → MayBeRowOf task (tree_at (trees_of nodes) k) (kept_row rows (Some k))
+kept_is : (task : TaskParts) (nodes : List SkelNode) (rows : List (Option Fillings)) (k : ℕ) → AreKept task nodes rows → MayBeFillingsOf task (tree_at (trees_of nodes) k) (kept_row rows (Some k))
 kept_is task nodes rows k kept = at (slice_get rows k) refl
   where
-    at : (found : Option (Option Row)) → slice_get rows k ≡ found → MayBeRowOf task (tree_at (trees_of nodes) k) (option_and_then (λ (row : Option Row). row) found)
+    at : (found : Option (Option Fillings)) → slice_get rows k ≡ found → MayBeFillingsOf task (tree_at (trees_of nodes) k) (option_and_then (λ (row : Option Fillings). row) found)
     at None is = tt
     at (Some None) is = tt
     at (Some (Some row)) is = kept k row is
 
 -- a child that a node has is its part, where it is kept
-child_part : (task : TaskParts) (nodes : List SkelNode) (rows : List (Option Row)) (child : Option ℕ) → AreKept task nodes rows → ((c : ℕ) → child ≡ Some c → IsKept rows c) → is_some child ≡ true
+child_part : (task : TaskParts) (nodes : List SkelNode) (rows : List (Option Fillings)) (child : Option ℕ) → AreKept task nodes rows → ((c : ℕ) → child ≡ Some c → IsKept rows c) → is_some child ≡ true
     → IsPartOf task (child_tree (trees_of nodes) child) (kept_row rows child)
 child_part task nodes rows None kept each there = absurd (false≢true there)
 child_part task nodes rows (Some c) kept each there = part_of task (tree_at (trees_of nodes) c) (kept_row rows (Some c)) (kept_is task nodes rows c kept) (each c refl)
 
-parts_of : (task : TaskParts) (k : Kind) (a b : Tree) (left right : Option Row) (l r : Option ℕ) → HasItsChildren k l r → (is_some l ≡ true → IsPartOf task a left) → (is_some r ≡ true → IsPartOf task b right)
+parts_of : (task : TaskParts) (k : Kind) (a b : Tree) (left right : Option Fillings) (l r : Option ℕ) → HasItsChildren k l r → (is_some l ≡ true → IsPartOf task a left) → (is_some r ≡ true → IsPartOf task b right)
     → ArePartsOf task (kind_tree k a b) left right
 parts_of task (kind.Base table) a b left right l r has first second = tt
 parts_of task kind.Filter a b left right l r has first second = first has.0
@@ -61,7 +61,7 @@ parts_of task kind.UnionAll a b left right l r has first second = (first has.0, 
 parts_of task kind.Union a b left right l r has first second = (first has.0, second has.1)
 
 -- the rows that are kept of a node's children are those of its parts
-pub parts_kept : (task : TaskParts) (nodes : List SkelNode) (types : List (List ColType)) (rows : List (Option Row)) (k : ℕ) (node : SkelNode) (skeleton : Tree) (left right : Option Row)
+pub parts_kept : (task : TaskParts) (nodes : List SkelNode) (types : List (List ColType)) (rows : List (Option Fillings)) (k : ℕ) (node : SkelNode) (skeleton : Tree) (left right : Option Fillings)
     → IsGraph nodes types → AreKept task nodes rows → ChildrenKept nodes rows k → slice_get nodes k ≡ Some node → skeleton ≡ tree_at (trees_of nodes) k
     → left ≡ kept_row rows node.left → right ≡ kept_row rows node.right → ArePartsOf task skeleton left right
 parts_kept task nodes types rows k node skeleton left right graph kept children is is_skeleton is_left is_right =
@@ -83,32 +83,32 @@ set_was (z ∷ xs) (suc k) zero x y is = inr is
 set_was (z ∷ xs) (suc k) (suc j) x y is = elim (set_was xs k j x y is) [ inl e ↦ inl (ap suc e.0, e.1) | inr was ↦ inr was ]
 
 -- a row that is put in its place is kept, and all that were kept are
-pub put_is : (rows : List (Option Row)) (k : ℕ) (row : Row) → k < length rows → IsKept (set rows k (Some row)) k
+pub put_is : (rows : List (Option Fillings)) (k : ℕ) (row : Fillings) → k < length rows → IsKept (set rows k (Some row)) k
 put_is [] k row below = absurd (let no : ⊥ = omega (arith, below) in no)
 put_is (x ∷ rows) zero row below = refl
 put_is (x ∷ rows) (suc k) row below = put_is rows k row (omega (arith, below))
 
-pub put_still : (rows : List (Option Row)) (k j : ℕ) (row : Row) → IsKept rows j → IsKept (set rows k (Some row)) j
+pub put_still : (rows : List (Option Fillings)) (k j : ℕ) (row : Fillings) → IsKept rows j → IsKept (set rows k (Some row)) j
 put_still [] k j row was = was
 put_still (x ∷ rows) zero zero row was = refl
 put_still (x ∷ rows) zero (suc j) row was = was
 put_still (x ∷ rows) (suc k) zero row was = was
 put_still (x ∷ rows) (suc k) (suc j) row was = put_still rows k j row was
 
-pub put_kept : (task : TaskParts) (nodes : List SkelNode) (rows : List (Option Row)) (k : ℕ) (row : Row) → AreKept task nodes rows → IsRowOf task (tree_at (trees_of nodes) k) row → AreKept task nodes (set rows k (Some row))
+pub put_kept : (task : TaskParts) (nodes : List SkelNode) (rows : List (Option Fillings)) (k : ℕ) (row : Fillings) → AreKept task nodes rows → AreFillingsOf task (tree_at (trees_of nodes) k) row → AreKept task nodes (set rows k (Some row))
 put_kept task nodes rows k row kept is =
     λ j there found.
     elim (set_was rows k j (Some row) (Some there) found) [
-      | inl h ↦ subst (λ n. IsRowOf task (tree_at (trees_of nodes) n) there) (sym h.0) (subst (IsRowOf task (tree_at (trees_of nodes) k)) (same_Some row there h.1) is)
+      | inl h ↦ subst (λ n. AreFillingsOf task (tree_at (trees_of nodes) n) there) (sym h.0) (subst (AreFillingsOf task (tree_at (trees_of nodes) k)) (same_Some row there h.1) is)
       | inr was ↦ kept j there was
     ]
 
 -- the children of a job's node are kept, where what was filled before is
-pub children_kept : (nodes : List SkelNode) (jobs : List Job) (rows : List (Option Row)) (i : ℕ) (job : Job) → PartsComeFirst nodes jobs → slice_get jobs i ≡ Some job → FilledAreKept (take i jobs) rows → ChildrenKept nodes rows (node_of job)
+pub children_kept : (nodes : List SkelNode) (jobs : List Job) (rows : List (Option Fillings)) (i : ℕ) (job : Job) → PartsComeFirst nodes jobs → slice_get jobs i ≡ Some job → FilledAreKept (take i jobs) rows → ChildrenKept nodes rows (node_of job)
 children_kept nodes jobs rows i job first is filled = λ child told. filled child (first i child job is told)
 
 -- of one job more the row is kept
-pub filled_more : (jobs : List Job) (old new : List (Option Row)) (i : ℕ) (job : Job) → slice_get jobs i ≡ Some job → FilledAreKept (take i jobs) old → ((k : ℕ) → IsKept old k → IsKept new k) → FilledAreKept (job ∷ []) new
+pub filled_more : (jobs : List Job) (old new : List (Option Fillings)) (i : ℕ) (job : Job) → slice_get jobs i ≡ Some job → FilledAreKept (take i jobs) old → ((k : ℕ) → IsKept old k → IsKept new k) → FilledAreKept (job ∷ []) new
     → FilledAreKept (take (i + 1) jobs) new
 filled_more jobs old new i job is before still last =
     λ k there.
@@ -137,13 +137,13 @@ cost_over task trees jobs i job budget left is before over =
     omega (arith, more, one, some, before, over)
 
 -- no row stands in empty places
-pub none_there : (n k : ℕ) (row : Row) → slice_get (replicate n None) k ≡ Some (Some row) → ⊥
+pub none_there : (n k : ℕ) (row : Fillings) → slice_get (replicate n None) k ≡ Some (Some row) → ⊥
 none_there zero k row there = none-some (Some row) there
 none_there (suc n) zero row there = none-some row (same_Some None (Some row) there)
 none_there (suc n) (suc k) row there = none_there n k row there
 
 -- before any job nothing has to be kept
-pub filled_none : (rows : List (Option Row)) → FilledAreKept [] rows
+pub filled_none : (rows : List (Option Fillings)) → FilledAreKept [] rows
 filled_none rows = λ k there. absurd (contains_in [] (Inner k) there)
 
 -- whether a job fills a part
@@ -152,14 +152,14 @@ fills (Inner k) = true
 fills (Root k) = false
 
 -- a job that fills a part has its row kept, and one that searches a root fills none
-pub filled_inner : (rows : List (Option Row)) (k : ℕ) → IsKept rows k → FilledAreKept (Inner k ∷ []) rows
+pub filled_inner : (rows : List (Option Fillings)) (k : ℕ) → IsKept rows k → FilledAreKept (Inner k ∷ []) rows
 filled_inner rows k kept = λ j there. one j (contains_in (Inner k ∷ []) (Inner j) there)
   where
     one : (j : ℕ) → In (Inner j) (Inner k ∷ []) → IsKept rows j
     one j (inl e) = subst (IsKept rows) (sym (ap node_of e)) kept
     one j (inr gone) = absurd gone
 
-pub filled_root : (rows : List (Option Row)) (k : ℕ) → FilledAreKept (Root k ∷ []) rows
+pub filled_root : (rows : List (Option Fillings)) (k : ℕ) → FilledAreKept (Root k ∷ []) rows
 filled_root rows k = λ j there. one j (contains_in (Root k ∷ []) (Inner j) there)
   where
     one : (j : ℕ) → In (Inner j) (Root k ∷ []) → IsKept rows j
@@ -185,7 +185,7 @@ found_few f roots i =
     omega (arith, some, all, less)
 
 -- the children of a root are kept, where what the jobs fill is
-pub root_children : (nodes : List SkelNode) (roots : List ℕ) (jobs : List Job) (rows : List (Option Row)) (root : ℕ) → jobs ≡ jobs_of nodes roots → ChildrenAreInner nodes roots → In root roots → FilledAreKept jobs rows → ChildrenKept nodes rows root
+pub root_children : (nodes : List SkelNode) (roots : List ℕ) (jobs : List Job) (rows : List (Option Fillings)) (root : ℕ) → jobs ≡ jobs_of nodes roots → ChildrenAreInner nodes roots → In root roots → FilledAreKept jobs rows → ChildrenKept nodes rows root
 root_children nodes roots jobs rows root listed inner there filled =
     λ child told.
     let numbers = inner_of nodes roots in

@@ -7,10 +7,10 @@ use Rattle.query_core.specs.Answers.{RankedQuery}
 use Rattle.skeleton_graph.specs.Nodes.{tree_at, trees_of}
 use Rattle.skeleton_graph.specs.declared.node.SkelNode.{SkelNode}
 use Rattle.fill_core.specs.Plans.{IsChild, PlanData}
-use Rattle.fill_core.specs.View.{IsRowOf, weight_of}
+use Rattle.fill_core.specs.View.{AreFillingsOf, weight_of}
 use Rattle.fill_core.specs.declared.job.Job.{Job}
 use Rattle.fill_core.specs.declared.job.Job.TheVariants.{Inner, Root}
-use Rattle.fill_core.specs.declared.row.Row.{Row}
+use Rattle.fill_core.specs.declared.fillings.Fillings.{Fillings}
 use Rattle.root_search.specs.Answers.{root_answers}
 
 -- the trees of a plan's nodes, by number
@@ -44,22 +44,22 @@ IsLeft budget cost None = budget < cost
 IsLeft budget cost (Some left) = left + cost ≡ budget
 
 -- the row that is kept of a child, none where there is no child or none is kept
-abbrev pub kept_row : List (Option Row) → Option ℕ → Option Row
+abbrev pub kept_row : List (Option Fillings) → Option ℕ → Option Fillings
 kept_row rows None = None
 kept_row rows (Some number) = option_and_then (λ row. row) (slice_get rows number)
 
 -- the row of a node is kept
-abbrev pub IsKept : List (Option Row) → ℕ → Type 0
+abbrev pub IsKept : List (Option Fillings) → ℕ → Type 0
 IsKept rows number = is_some (kept_row rows (Some number)) ≡ true
 
 -- each row that is kept is the one of the node of its number
-abbrev pub AreKept : TaskParts → List SkelNode → List (Option Row) → Type 0
-AreKept task nodes rows = (number : ℕ) (row : Row) → slice_get rows number ≡ Some (Some row) → IsRowOf task (tree_at (trees_of nodes) number) row
+abbrev pub AreKept : TaskParts → List SkelNode → List (Option Fillings) → Type 0
+AreKept task nodes rows = (number : ℕ) (row : Fillings) → slice_get rows number ≡ Some (Some row) → AreFillingsOf task (tree_at (trees_of nodes) number) row
 
 -- the rows of a node's children are kept
-abbrev pub ChildrenKept : List SkelNode → List (Option Row) → ℕ → Type 0
+abbrev pub ChildrenKept : List SkelNode → List (Option Fillings) → ℕ → Type 0
 ChildrenKept nodes rows k = (child : ℕ) → IsChild nodes k child → IsKept rows child
 
 -- the rows of the parts that some jobs fill are kept
-abbrev pub FilledAreKept : List Job → List (Option Row) → Type 0
+abbrev pub FilledAreKept : List Job → List (Option Fillings) → Type 0
 FilledAreKept jobs rows = (k : ℕ) → Contains jobs (Inner k) → IsKept rows k

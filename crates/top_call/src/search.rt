@@ -2,11 +2,11 @@ ghost use Rattle.std.specs.Prelude.{◌≡◌, ◌≤◌, ◌<◌, ◌+◌, ◌+
 ghost use Rattle.query_core.specs.Answers.{ascending, comes_before};
 ghost use Rattle.rank_core.specs.View.{ranked_query, ranked_queries};
 ghost use Rattle.fill_core.specs.Plans.{node_of};
-ghost use Rattle.fill_core.specs.View.{IsRowOf};
+ghost use Rattle.fill_core.specs.View.{AreFillingsOf};
 ghost use Rattle.skeleton_graph.specs.Nodes.{tree_at, trees_of};
 ghost use Rattle.top_call.specs.Search.{part_cost, parts_weigh, answers_at, plan_answers, plan_need, IsLeft, kept_row, AreKept, ChildrenKept, IsKept, FilledAreKept};
 
-use fill_core::{Below, Job, Plan, Row, fill_node};
+use fill_core::{Below, Job, Plan, Fillings, fill_over};
 use rank_core::{Ranked, sort};
 use root_search::Root;
 use skeleton_graph::SkelNode;
@@ -33,7 +33,7 @@ impl From<OutOfMemory> for SearchEnd {
 }
 
 // The row that is kept of a child.
-fn kept_row(rows: &[Option<Row>], child: Option<u32>) -> Option<&Row>
+fn kept_row(rows: &[Option<Fillings>], child: Option<u32>) -> Option<&Fillings>
     ensures { option_copied result ≡ kept_row rows.now child }
 {
     match child {
@@ -46,7 +46,7 @@ fn kept_row(rows: &[Option<Row>], child: Option<u32>) -> Option<&Row>
 }
 
 // The rows that are kept of a node's children.
-fn kept_below<'r>(rows: &'r [Option<Row>], node: &SkelNode) -> Below<'r>
+fn kept_below<'r>(rows: &'r [Option<Fillings>], node: &SkelNode) -> Below<'r>
     ensures left { option_copied result.left ≡ kept_row rows.now node.now.left }
     ensures right { option_copied result.right ≡ kept_row rows.now node.now.right }
 {
@@ -60,26 +60,26 @@ fn kept_below<'r>(rows: &'r [Option<Row>], node: &SkelNode) -> Below<'r>
 fn filled(
     alloc: Global,
     plan: &Plan<'_>,
-    rows: &[Option<Row>],
+    rows: &[Option<Fillings>],
     number: u32,
-) -> Result<Row, OutOfMemory>
+) -> Result<Fillings, OutOfMemory>
     requires number { number < length plan.now.graph.nodes }
     requires kept { AreKept plan.now.task plan.now.graph.nodes rows.now }
     requires children { ChildrenKept plan.now.graph.nodes rows.now number }
-    ensures { IfOk result (IsRowOf plan.now.task (tree_at (trees_of plan.now.graph.nodes) number)) }
+    ensures { IfOk result (AreFillingsOf plan.now.task (tree_at (trees_of plan.now.graph.nodes) number)) }
 {
     let graph = plan.graph();
     graph.is_ordered();
     let skeleton = graph.tree(alloc, number)?;
     let below = kept_below(rows, graph.node(number));
-    fill_node(alloc, plan.task(), &skeleton, &below)
+    fill_over(alloc, plan.task(), &skeleton, &below)
 }
 
 // Appends the answers of a root over the rows that are kept of its children.
 fn push_found(
     alloc: Global,
     plan: &Plan<'_>,
-    rows: &[Option<Row>],
+    rows: &[Option<Fillings>],
     number: u32,
     out: &mut Vec<Ranked>,
 ) -> Result<(), OutOfMemory>
@@ -104,14 +104,14 @@ fn push_found(
 /// The rows of the parts of a search, by number, and what they leave of the budget.
 #[derive(Drop)]
 struct PartRows {
-    rows: Vec<Option<Row>>,
+    rows: Vec<Option<Fillings>>,
     left: u64,
 }
 
 // So many places for rows, all of them empty.
-fn no_rows(alloc: Global, len: u32) -> Result<Vec<Option<Row>>, OutOfMemory>
+fn no_rows(alloc: Global, len: u32) -> Result<Vec<Option<Fillings>>, OutOfMemory>
     ensures size { IfOk result (λ rows. length rows.items ≡ len) }
-    ensures none { IfOk result (λ rows. (k : ℕ) (row : Row) → ¬ (slice_get rows.items k ≡ Some (Some row))) }
+    ensures none { IfOk result (λ rows. (k : ℕ) (row : Fillings) → ¬ (slice_get rows.items k ≡ Some (Some row))) }
 {
     let mut rows = Vec::new(alloc);
     for _ in 0..len {
@@ -125,7 +125,7 @@ fn fill(
     alloc: Global,
     plan: &Plan<'_>,
     job: Job,
-    rows: &mut Vec<Option<Row>>,
+    rows: &mut Vec<Option<Fillings>>,
     budget: u64,
 ) -> Result<Option<u64>, OutOfMemory>
     requires node { node_of job < length plan.now.graph.nodes }

@@ -9,8 +9,8 @@ use Rattle.fill_core.specs.View.{ArePartsOf}
 use Rattle.top_call.proofs.SearchLaws.{parts_kept}
 use Rattle.top_call.proofs.search.filled.Goals as goal
 
-pub fill_node-requires : goal.fill_node-requires
-fill_node-requires c =
+pub fill_over-requires : goal.fill_node-requires
+fill_over-requires c =
     let g = c.args.plan.now.graph in
     let here = c.graph-graph.ensures in
     let Ordered : GraphData → Type 0 = λ x. IsGraph x.nodes x.types in

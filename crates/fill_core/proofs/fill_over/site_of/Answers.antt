@@ -5,7 +5,7 @@ use Rattle.query_core.proofs.TreeLaws.{tree_filter, tree_join, tree_left, tree_g
 use Rattle.query_core.specs.declared.kinds.Pairing.TheVariants.{Join, Left}
 use Rattle.query_core.specs.declared.kinds.Uniting.TheVariants.{All, Firsts}
 use Rattle.fill_core.proofs.SiteLaws.{site_filters, site_groups, site_pairs, site_unions}
-use Rattle.fill_core.proofs.fillings.site_of.Goals as goal
+use Rattle.fill_core.proofs.fill_over.site_of.Goals as goal
 
 pub returns-in-Filter-Some-default-clause-filled : goal.returns-in-Filter-Some-default-clause-filled
 returns-in-Filter-Some-default-clause-filled c task parts =
