@@ -1,3 +1,4 @@
+pub mod Bounds
 pub mod Choices
 pub mod Marks
 pub mod Offers
