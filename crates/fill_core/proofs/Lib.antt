@@ -1,3 +1,4 @@
+pub mod BoundLaws
 pub mod ChoiceLaws
 pub mod JobLaws
 pub mod MaskLaws
