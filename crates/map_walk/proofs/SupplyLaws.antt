@@ -116,6 +116,10 @@ module _ {X : Type 0} (has : X → ℕ → Value → Bool) (width : ℕ) (candid
     ],
   )
 
+  -- it is told of as many columns
+  pub supplies_wide : length (supplies_by has width candidates table) ≡ width
+  supplies_wide = length-map-range_with_len (column_supplies has candidates table) 0 width
+
 -- ---- what is told of parts
 
 -- by place: of two parts joined, of one that is loosened, and of chosen columns
