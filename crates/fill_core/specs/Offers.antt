@@ -6,6 +6,9 @@ use Rattle.predicate_core.specs.declared.pred.Pred.{Pred}
 use Rattle.table_core.specs.Rows.{Row}
 use Rattle.bit_rows.specs.Masked.{masked}
 use Rattle.query_core.specs.Filled.{Filled}
+use Rattle.query_core.specs.Joins.{crossed, crossed_and_padded}
+use Rattle.query_core.specs.declared.kinds.Pairing.{Pairing}
+use Rattle.query_core.specs.declared.kinds.Pairing.TheVariants.{Join, Left}
 use Rattle.fill_core.specs.Bounds.{Passes}
 use Rattle.fill_core.specs.declared.choice.Choice.{Choice}
 
@@ -25,6 +28,11 @@ filled_by_all types preds candidates choices = map (filled_by types preds candid
 -- a store holds what it held and, behind it, what is gathered of some fillings
 abbrev pub Gathered : {Store Item : Type 0} → (Store → List Item) → (Filled → List Item) → Store → Store → List Filled → Type 0
 Gathered held gives before after fillings = held after ≡ held before ++ flat_map gives fillings
+
+-- what a pair of two parts chooses from; the right one has so many columns
+abbrev pub pair_candidates : Pairing → ℕ → List Row → List Row → List Row
+pair_candidates Join width lefts rights = crossed lefts rights
+pair_candidates Left width lefts rights = crossed_and_padded width lefts rights
 
 -- what a store holds and what is gathered of some fillings weigh together more than a bound, where there is one
 abbrev pub TooMuch : {Item : Type 0} → Option ℕ → (Item → ℕ) → (Filled → List Item) → List Item → List Filled → Type 0

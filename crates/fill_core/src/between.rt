@@ -11,6 +11,7 @@ use crate::choice::choices;
 use crate::end::FillEnd;
 use crate::fillings::Entry;
 use crate::offer::{Offer, Whole};
+use crate::parts_seen::PairSeen;
 use crate::receiver::Receiver;
 use crate::site::Binary;
 use crate::steps::Steps;
@@ -68,6 +69,24 @@ impl Parts<'_> {
 }
 
 impl Between<'_> {
+    // The rows of the parts of a pair.
+    fn seen<'s>(&'s self, kind: Pairing, parts: &'s Parts<'_>) -> PairSeen<'s>
+        ensures kind { result.kind ≡ kind }
+        ensures types { result.types.now ≡ self.now.types.now }
+        ensures right { result.right.now ≡ self.now.right.now }
+        ensures lefts { result.lefts.now ≡ parts.now.left.now.rows }
+        ensures rights { result.rights.now ≡ parts.now.right.now.rows }
+    {
+        PairSeen {
+            kind,
+            types: self.types,
+            left: self.left,
+            right: self.right,
+            lefts: parts.left.rows.as_slice(),
+            rights: parts.right.rows.as_slice(),
+        }
+    }
+
     // Hands the joins of two entries to a receiver.
     #[tactic(auto, using(crate::proofs::OfferLaws::joins_are, crate::proofs::OfferLaws::hole_wide))]
     fn hand_joins<R: Receiver>(
@@ -85,6 +104,9 @@ impl Between<'_> {
         ensures keeps { OnOk result (R.keeps receiver.now store.new) }
         ensures heavy { result ≡ Err ends.Heavy → TooMuch (R.bound receiver.now) (R.weighs receiver.now) (R.gives receiver.now) (R.held receiver.now store.old) (filled_pairs self.now.task.now pairing.Join (entry_filled self.now.left.now parts.now.left.now) (entry_filled self.now.right.now parts.now.right.now)) }
     {
+        if receiver.is_shut_pair(&self.seen(Pairing::Join, parts)) {
+            return Ok(());
+        }
         let (lefts, rights) = (parts.left.rows.as_slice(), parts.right.rows.as_slice());
         let pairs = cross_rows(alloc, lefts, rights)?;
         let Some(findings) = receiver.look(alloc, self.types, pairs.as_slice())? else {
@@ -118,6 +140,9 @@ impl Between<'_> {
         ensures keeps { OnOk result (R.keeps receiver.now store.new) }
         ensures heavy { result ≡ Err ends.Heavy → TooMuch (R.bound receiver.now) (R.weighs receiver.now) (R.gives receiver.now) (R.held receiver.now store.old) (filled_pairs self.now.task.now pairing.Left (entry_filled self.now.left.now parts.now.left.now) (entry_filled self.now.right.now parts.now.right.now)) }
     {
+        if receiver.is_shut_pair(&self.seen(Pairing::Left, parts)) {
+            return Ok(());
+        }
         let (lefts, rights) = (parts.left.rows.as_slice(), parts.right.rows.as_slice());
         let candidates = cross_and_pad_rows(alloc, self.right.len(), lefts, rights)?;
         let Some(findings) = receiver.look(alloc, self.types, candidates.as_slice())? else {

@@ -6,6 +6,7 @@ use crate::choice::Choice;
 use crate::end::FillEnd;
 use crate::fillings::Entry;
 use crate::offer::Offer;
+use crate::parts_seen::{GroupSeen, PairSeen};
 use crate::receiver::Receiver;
 use predicate_core::Pred;
 use sqlite_items::Items;
@@ -110,6 +111,14 @@ impl Receiver for Keeper<'_> {
     ghost accepts = { λ k f. Unit };
 
     ghost found = { λ k types candidates findings. Unit };
+
+    fn is_shut_pair(&self, _seen: &PairSeen<'_>) -> bool {
+        false
+    }
+
+    fn is_shut_group(&self, _seen: &GroupSeen<'_>) -> bool {
+        false
+    }
 
     fn look(
         &self,

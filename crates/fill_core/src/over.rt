@@ -9,6 +9,7 @@ use crate::choice::filter_choices;
 use crate::end::FillEnd;
 use crate::fillings::Entry;
 use crate::offer::{Offer, Whole};
+use crate::parts_seen::GroupSeen;
 use crate::receiver::Receiver;
 use crate::site::Unary;
 use crate::steps::Steps;
@@ -79,6 +80,15 @@ impl Over<'_> {
             Unary::Filter => hand_filters(alloc, self, child, receiver, store),
             Unary::Group(keys, agg) => {
                 let rows = child.rows.as_slice();
+                let seen = GroupSeen {
+                    types: self.types,
+                    keys,
+                    child: self.child,
+                    rows,
+                };
+                if receiver.is_shut_group(&seen) {
+                    return Ok(());
+                }
                 let Some(groups) = group_tuples(alloc, keys, agg, rows)? else {
                     return Ok(());
                 };

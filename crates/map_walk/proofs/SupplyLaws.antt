@@ -1,5 +1,5 @@
 -- What is told of the columns of candidates: it is true where they are told it, a node's where its parts' is, and where it doesn't open them there is no reading.
-use Rattle.std.proofs.Common.{◌≡◌, refl, sym, ap, ◌∙◌, ℕ, zero, suc, ◌+◌, ◌-◌, ◌<◌, Bool, true, false, ◌&&◌, ◌||◌, ◌⊎◌, inl, inr, List, [], ◌∷◌, ◌++◌, length, map, drop, get_or, replicate, Option, Some, None, arith}
+use Rattle.std.proofs.Common.{◌≡◌, refl, sym, ap, ◌∙◌, ℕ, zero, suc, ◌+◌, ◌-◌, ◌<◌, ◌≤◌, Bool, true, false, ◌&&◌, ◌||◌, ◌⊎◌, inl, inr, List, [], ◌∷◌, ◌++◌, length, map, drop, get_or, replicate, Option, Some, None, arith}
 use Rattle.std.specs.Prelude.{slice_get, unwrap_or, option_map, if◌then◌else◌}
 use Rattle.std.specs.List.{list_all, list_any, range_with_len}
 use Rattle.std.proofs.lemmas.Bool.{and_parts, cases_lt, or_cases, false≢true}
@@ -76,26 +76,42 @@ full_step types supplies table columns place column b are below is so_far some =
 -- ---- what is told by the candidates themselves is true
 
 -- what is made of the number of a place, where there is one
-made_at : {A : Type 0} (f : ℕ → A) (n i : ℕ) → (slice_get (map f (range_with_len 0 n)) i ≡ None) ⊎ (slice_get (map f (range_with_len 0 n)) i ≡ Some (f i))
-made_at f n i =
-    elim (cases_lt i n) [
-      | inl within ↦ inr
-          (slice_get-map f (range_with_len 0 n) i ∙ ap (option_map f) (slice_get-get_or (range_with_len 0 n) i 0 (omega (arith, within, length-range_with_len 0 n)))
-          ∙ ap (λ k. Some (f k)) (let there = get_or-range_with_len 0 n i 0 within in omega (arith, there)))
-      | inr past ↦ inl (slice_get_past (map f (range_with_len 0 n)) i (omega (arith, past, length-map-range_with_len f 0 n)))
-    ]
+made_there : {A : Type 0} (f : ℕ → A) (n i : ℕ) → i < n → slice_get (map f (range_with_len 0 n)) i ≡ Some (f i)
+made_there f n i within =
+    slice_get-map f (range_with_len 0 n) i ∙ ap (option_map f) (slice_get-get_or (range_with_len 0 n) i 0 (omega (arith, within, length-range_with_len 0 n)))
+    ∙ ap (λ k. Some (f k)) (let there = get_or-range_with_len 0 n i 0 within in omega (arith, there))
+
+made_past : {A : Type 0} (f : ℕ → A) (n i : ℕ) → n ≤ i → slice_get (map f (range_with_len 0 n)) i ≡ None
+made_past f n i past = slice_get_past (map f (range_with_len 0 n)) i (omega (arith, past, length-map-range_with_len f 0 n))
 
 module _ {X : Type 0} (has : X → ℕ → Value → Bool) (width : ℕ) (candidates : List X) (table : TableData) where
   -- what is told of two columns is true of them, or it is nothing
+  -- by place: of a column that there is, and of one that there isn't
+  pub told_there : (at place : ℕ) → at < width → place < length table.columns → supply_at (supplies_by has width candidates table) at place ≡ supply_of has candidates table.rows place at
+  told_there at place within below =
+      ap (λ o. unwrap_or (slice_get (unwrap_or o []) place) Full) (made_there (column_supplies has candidates table) width at within)
+      ∙ ap (λ o. unwrap_or o Full) (made_there (λ p. supply_of has candidates table.rows p at) (length table.columns) place below)
+
+  pub told_outside : (at place : ℕ) → width ≤ at → supply_at (supplies_by has width candidates table) at place ≡ Full
+  told_outside at place past = ap (λ o. unwrap_or (slice_get (unwrap_or o []) place) Full) (made_past (column_supplies has candidates table) width at past)
+
+  pub told_past : (at place : ℕ) → length table.columns ≤ place → supply_at (supplies_by has width candidates table) at place ≡ Full
+  told_past at place past =
+      elim (cases_lt at width) [
+        | inl within ↦
+            ap (λ o. unwrap_or (slice_get (unwrap_or o []) place) Full) (made_there (column_supplies has candidates table) width at within)
+            ∙ ap (λ o. unwrap_or o Full) (made_past (λ p. supply_of has candidates table.rows p at) (length table.columns) place past)
+        | inr outside ↦ told_outside at place outside
+      ]
+
   told_at : (at place : ℕ) → (supply_at (supplies_by has width candidates table) at place ≡ Full) ⊎ (supply_at (supplies_by has width candidates table) at place ≡ supply_of has candidates table.rows place at)
   told_at at place =
-      elim (made_at (column_supplies has candidates table) width at) [
-        | inl none ↦ inl (ap (λ o. unwrap_or (slice_get (unwrap_or o []) place) Full) none)
-        | inr is ↦
-            elim (made_at (λ p. supply_of has candidates table.rows p at) (length table.columns) place) [
-              | inl none ↦ inl (ap (λ o. unwrap_or (slice_get (unwrap_or o []) place) Full) is ∙ ap (λ o. unwrap_or o Full) none)
-              | inr there ↦ inr (ap (λ o. unwrap_or (slice_get (unwrap_or o []) place) Full) is ∙ ap (λ o. unwrap_or o Full) there)
-            ]
+      elim (cases_lt at width) [
+        | inl within ↦ elim (cases_lt place (length table.columns)) [
+            | inl below ↦ inr (told_there at place within below)
+            | inr past ↦ inl (told_past at place past)
+          ]
+        | inr outside ↦ inl (told_outside at place outside)
       ]
 
   loose_of : (at place : ℕ) (b : Bool) → serves_but_null has candidates table.rows place at ≡ true

@@ -13,7 +13,9 @@ mod walk;
 
 pub use candidate::Candidate;
 pub use open::is_open;
-pub use opening::{SupplyPair, group_opens, opens, pair_opens};
+pub use opening::{
+    Standing, SupplyPair, group_opens, opens, pair_opens, standing_group_opens, standing_pair_opens,
+};
 pub use reading::{has_reading, readings};
 pub use supply::{Supply, supplies};
 pub use target::{Reading, Target};

@@ -1,9 +1,10 @@
-ghost use Rattle.std.specs.Prelude.{◌≡◌, List};
+ghost use Rattle.std.specs.Prelude.{◌≡◌, List, length};
 ghost use Rattle.table_core.specs.Rows.{types_of};
-ghost use Rattle.map_walk.specs.Supply.{supply_at, some_full, pair_supplies, group_supplies, opens};
+ghost use Rattle.map_walk.specs.Supply.{supplies_by, supply_at, some_full, pair_supplies, group_supplies, opens};
 ghost use Rattle.map_walk.specs.declared.supply.Supply as told;
 
-use crate::supply::Supply;
+use crate::candidate::Candidate;
+use crate::supply::{Supply, supply_of};
 use query_core::{Pairing, same_type};
 use sqlite_items::Items;
 use table_core::Table;
@@ -16,59 +17,118 @@ pub struct SupplyPair<'a> {
     pub right: &'a [Items<Supply>],
 }
 
-// What tells how much a body's columns have.
-trait Source {
+/// Candidates of a part of so many columns.
+#[derive(Debug, Drop)]
+pub struct Standing<'a, C> {
+    pub width: usize,
+    pub rows: &'a [C],
+}
+
+// What tells how much the columns of a node's part have.
+trait Part {
     // For each of its columns, how much it has of each column of an output.
     ghost listed: { Self → List (List told.Supply) };
 
-    // How much the column at a place has of the output column at another.
+    // How many columns it has.
+    fn width(&self) -> usize
+        ensures { result ≡ length (listed self.now) };
+
+    // How much the column at a place has of the output column at another. Where nothing is told, it may have all.
     fn supply(&self, at: usize, place: usize) -> Supply
         ensures { result ≡ supply_at (listed self.now) at place };
 }
 
-// How much the column at a place has of the output column at another. Where nothing is told, it may have all.
-fn supply_at(supplies: &[Items<Supply>], at: usize, place: usize) -> Supply
-    ensures { result ≡ supply_at supplies.now at place }
-{
-    match supplies.get(at) {
-        Some(column) => match column.as_slice().get(place) {
-            Some(supply) => *supply,
+// What tells how much the columns of a node have, by its parts'.
+trait Source {
+    // For each of its columns, how much it has of each column of an output.
+    ghost listed: { Self → List (List told.Supply) };
+
+    // How much the column at a place has of the output column at another. Where nothing is told, it may have all.
+    fn supply(&self, at: usize, place: usize) -> Supply
+        ensures { result ≡ supply_at (listed self.now) at place };
+}
+
+// A part of which this is told.
+#[derive(Drop)]
+struct Told<'a> {
+    supplies: &'a [Items<Supply>],
+}
+
+impl Part for Told<'_> {
+    ghost listed = { λ t. t.supplies.now };
+
+    fn width(&self) -> usize {
+        self.supplies.len()
+    }
+
+    fn supply(&self, at: usize, place: usize) -> Supply {
+        match self.supplies.get(at) {
+            Some(column) => match column.as_slice().get(place) {
+                Some(supply) => *supply,
+                None => Supply::Full,
+            },
             None => Supply::Full,
-        },
-        None => Supply::Full,
+        }
+    }
+}
+
+// A part that is looked at where it stands.
+#[derive(Drop)]
+struct Seen<'a, C> {
+    part: &'a Standing<'a, C>,
+    output: &'a Table,
+}
+
+impl<C: Candidate> Part for Seen<'_, C> {
+    ghost listed = { λ s. supplies_by C.has s.part.now.width s.part.now.rows.now s.output.now };
+
+    #[tactic(auto, using(crate::proofs::SupplyLaws::supplies_wide))]
+    fn width(&self) -> usize {
+        self.part.width
+    }
+
+    fn supply(&self, at: usize, place: usize) -> Supply {
+        if self.part.width <= at {
+            return Supply::Full;
+        }
+        if self.output.columns().len() <= place {
+            return Supply::Full;
+        }
+        supply_of(self.part.rows, self.output.tuples(), place, at)
     }
 }
 
 // A filter: it has what its part has.
-#[derive(Clone, Copy)]
-struct Filtered<'a> {
-    part: &'a [Items<Supply>],
+#[derive(Drop)]
+struct Filtered<P> {
+    part: P,
 }
 
-impl Source for Filtered<'_> {
-    ghost listed = { λ f. f.part.now };
+impl<P: Part> Source for Filtered<P> {
+    ghost listed = { λ f. P.listed f.part };
 
     fn supply(&self, at: usize, place: usize) -> Supply {
-        supply_at(self.part, at, place)
+        self.part.supply(at, place)
     }
 }
 
 // A pair of two parts.
-#[derive(Clone, Copy)]
-struct Paired<'a> {
+#[derive(Drop)]
+struct Paired<P> {
     kind: Pairing,
-    parts: SupplyPair<'a>,
+    left: P,
+    right: P,
 }
 
-impl Source for Paired<'_> {
-    ghost listed = { λ p. pair_supplies p.kind p.parts.left.now p.parts.right.now };
+impl<P: Part> Source for Paired<P> {
+    ghost listed = { λ p. pair_supplies p.kind (P.listed p.left) (P.listed p.right) };
 
     fn supply(&self, at: usize, place: usize) -> Supply {
-        let width = self.parts.left.len();
+        let width = self.left.width();
         if at < width {
-            return supply_at(self.parts.left, at, place);
+            return self.left.supply(at, place);
         }
-        let right = supply_at(self.parts.right, at - width, place);
+        let right = self.right.supply(at - width, place);
         match self.kind {
             Pairing::Join => right,
             Pairing::Left => right.loosened(),
@@ -77,18 +137,18 @@ impl Source for Paired<'_> {
 }
 
 // A group of a part by key columns.
-#[derive(Clone, Copy)]
-struct Grouped<'a> {
+#[derive(Drop)]
+struct Grouped<'a, P> {
     keys: &'a [usize],
-    child: &'a [Items<Supply>],
+    child: P,
 }
 
-impl Source for Grouped<'_> {
-    ghost listed = { λ g. group_supplies g.keys.now g.child.now };
+impl<P: Part> Source for Grouped<'_, P> {
+    ghost listed = { λ g. group_supplies g.keys.now (P.listed g.child) };
 
     fn supply(&self, at: usize, place: usize) -> Supply {
         match self.keys.get(at) {
-            Some(key) => supply_at(self.child, *key, place),
+            Some(key) => self.child.supply(*key, place),
             None => Supply::Full,
         }
     }
@@ -125,7 +185,8 @@ fn all_full<S: Source>(source: &S, types: &[ColType], output: &Table) -> bool
 pub fn opens(types: &[ColType], supplies: &[Items<Supply>], output: &Table) -> bool
     ensures { result ≡ opens types.now supplies.now (types_of output.now) }
 {
-    all_full(&Filtered { part: supplies }, types, output)
+    let part = Told { supplies };
+    all_full(&Filtered { part }, types, output)
 }
 
 /// The same of a join or a left join, told from the supplies of its parts.
@@ -134,7 +195,12 @@ pub fn pair_opens(kind: Pairing, parts: &SupplyPair<'_>, types: &[ColType], outp
 {
     let paired = Paired {
         kind,
-        parts: *parts,
+        left: Told {
+            supplies: parts.left,
+        },
+        right: Told {
+            supplies: parts.right,
+        },
     };
     all_full(&paired, types, output)
 }
@@ -148,5 +214,40 @@ pub fn group_opens(
 ) -> bool
     ensures { result ≡ opens types.now (group_supplies keys.now child.now) (types_of output.now) }
 {
+    let child = Told { supplies: child };
+    all_full(&Grouped { keys, child }, types, output)
+}
+
+/// The same of a join or a left join, told by the candidates of its parts as they stand.
+pub fn standing_pair_opens<C: Candidate>(
+    kind: Pairing,
+    left: &Standing<'_, C>,
+    right: &Standing<'_, C>,
+    types: &[ColType],
+    output: &Table,
+) -> bool
+    ensures { result ≡ opens types.now (pair_supplies kind (supplies_by C.has left.now.width left.now.rows.now output.now) (supplies_by C.has right.now.width right.now.rows.now output.now)) (types_of output.now) }
+{
+    let paired = Paired {
+        kind,
+        left: Seen { part: left, output },
+        right: Seen {
+            part: right,
+            output,
+        },
+    };
+    all_full(&paired, types, output)
+}
+
+/// The same of a group by key columns, told by the candidates of its part as they stand.
+pub fn standing_group_opens<C: Candidate>(
+    keys: &[usize],
+    part: &Standing<'_, C>,
+    types: &[ColType],
+    output: &Table,
+) -> bool
+    ensures { result ≡ opens types.now (group_supplies keys.now (supplies_by C.has part.now.width part.now.rows.now output.now)) (types_of output.now) }
+{
+    let child = Seen { part, output };
     all_full(&Grouped { keys, child }, types, output)
 }

@@ -66,8 +66,13 @@ fn serves_but_null<C: Candidate>(
     })
 }
 
-// How much a body column has of the output column at a place.
-fn supply_of<C: Candidate>(candidates: &[C], output: &[Tuple], place: usize, at: usize) -> Supply
+/// How much a body column has of the output column at a place.
+pub(crate) fn supply_of<C: Candidate>(
+    candidates: &[C],
+    output: &[Tuple],
+    place: usize,
+    at: usize,
+) -> Supply
     ensures { result ≡ supply_of C.has candidates.now output.now place at }
 {
     if serves(candidates, output, place, at) {
