@@ -1,22 +1,20 @@
 -- What is told of a skeleton's parts tells what its abstract rows have, and where it doesn't open the output they can't serve it.
-use Rattle.std.proofs.Common.{◌≡◌, refl, sym, ap, ◌∙◌, subst, ℕ, zero, suc, Bool, true, false, ◌||◌, ◌==◌, ◌⊎◌, inl, inr, List, [], ◌∷◌, ◌++◌, map, length, replicate, Option, Some, None, option_map, if◌then◌else◌}
+use Rattle.std.proofs.Common.{◌≡◌, refl, sym, ap, ◌∙◌, subst, ℕ, zero, suc, Bool, true, false, ◌==◌, inl, inr, List, [], ◌∷◌, ◌++◌, map, length, Option, Some, None, option_map, if◌then◌else◌}
 use Rattle.std.specs.Prelude.{slice_get, unwrap_or, flat_map}
 use Rattle.std.specs.List.{list_all}
 use Rattle.std.proofs.lemmas.Bool.{cases_Bool, eqb-true, false≢true}
-use Rattle.std.proofs.lemmas.List.{length-map}
-use Rattle.std.proofs.lemmas.Option.{none-some, same_Some, slice_get-map, slice_get_within}
-use Rattle.value_core.specs.Value.{same, is_null}
+use Rattle.std.proofs.lemmas.Option.{none-some, same_Some}
+use Rattle.value_core.specs.Value.{is_null}
 use Rattle.value_core.specs.declared.value.ColType.{ColType}
 use Rattle.value_core.specs.declared.value.Value.{Value}
 use Rattle.value_core.specs.declared.value.Value.TheVariants.{Null, Int, Text}
-use Rattle.predicate_core.proofs.NumberLaws.{get_front}
 use Rattle.predicate_core.proofs.OnceLists.{In, in_append, in_map, in_at}
 use Rattle.table_core.specs.Rows.{Row, TableData, types_of}
 use Rattle.table_core.specs.declared.task.TaskParts.{TaskParts}
 use Rattle.query_core.specs.Tree.{Tree}
 use Rattle.query_core.specs.Tree as t
 use Rattle.query_core.specs.Firsts.{projected}
-use Rattle.query_core.specs.Groups.{group_keys, group_row, members, grouped}
+use Rattle.query_core.specs.Groups.{group_keys, grouped}
 use Rattle.query_core.specs.Grammar.{maps}
 use Rattle.query_core.specs.Meaning.{columns, rows, of_rows}
 use Rattle.query_core.specs.declared.agg.Agg.{Agg}
@@ -25,15 +23,15 @@ use Rattle.query_core.specs.declared.kinds.Pairing.TheVariants.{Join, Left}
 use Rattle.query_laws.proofs.AscendingLists.{of_all}
 use Rattle.query_laws.proofs.GroupLaws.{row_of_key, group_row_is, grouped_in}
 use Rattle.query_laws.proofs.MemberLaws.{in_flat_map, map_in}
-use Rattle.map_walk.specs.Supply.{supplies_by, pair_supplies, group_supplies, opens, Tells}
+use Rattle.map_walk.specs.Supply.{supplies_by, pair_supplies, group_supplies, Tells}
 use Rattle.map_walk.specs.declared.supply.Supply.{Supply}
 use Rattle.map_walk.proofs.SupplyLaws.{told_has_closed, supplies_tell, supplies_wide, IsPaired, AreFrom, pair_tells, group_tells}
-use Rattle.over_cells.specs.Cells.{covers, value_of, is_known, are_known}
+use Rattle.over_cells.specs.Cells.{covers, value_of, is_known}
 use Rattle.over_cells.specs.declared.cell.AbsCell.{AbsCell}
 use Rattle.over_cells.specs.declared.cell.AbsCell.TheVariants.{Known, From, Within, Any}
 use Rattle.over_eval.specs.Over.{AbsRow, exact_row, cell_at, cells_at, plain, has_hole, pairs_over, padded_over, over_pair, members_over, cell_of, group_over, knows, any_group, groups_over, over_both, exact, over}
 use Rattle.over_eval.specs.Live.{serves_by}
-use Rattle.over_eval.specs.Parts.{ArePartsOf}
+use Rattle.over_eval.specs.Parts.{AreOfParts}
 use Rattle.over_eval.specs.Told.{cells_have, are_wide, told_of, kept_rows, kept_of, part_rows, told, told_both, told_over, may_open}
 use Rattle.over_eval.specs.declared.kept.KeptPart.{KeptPart}
 use Rattle.over_eval.proofs.NeverLaws.{whole_over}
@@ -215,7 +213,7 @@ module _ (task : TaskParts) where
           group_given (Some given) made e = (given, refl, e)
 
   -- what is told of a skeleton by what is kept of its parts is true of its abstract rows
-  over_told : (skeleton : Tree) (left right : Option KeptPart) → ArePartsOf (kept_of task) skeleton left right → SkeletonTold skeleton (told_over skeleton (told left) (told right))
+  over_told : (skeleton : Tree) (left right : Option KeptPart) → AreOfParts (kept_of task) skeleton left right → SkeletonTold skeleton (told_over skeleton (told left) (told right))
   over_told (t.base table) left right are out supplies there e = absurd (none-some supplies e)
   over_told (t.filter child p) left right are out supplies there e = (part_told child left out supplies are there e).0
   over_told (t.pair kind a b p) left right are out supplies there e = pair_told kind a b left right are.0 are.1 out supplies there e
@@ -230,7 +228,7 @@ module _ (task : TaskParts) where
   shut_rows types (Some out) (Some supplies) tells shut = sym (serves_where_read types out task.output) ∙ told_has_closed cells_have types out task.output supplies (tells out supplies refl refl) shut
 
   -- where what is kept of a skeleton's parts tells that it can't have all values of the output, its abstract rows don't serve it
-  pub shut_skeleton : (types : List ColType) (skeleton : Tree) (left right : Option KeptPart) → ArePartsOf (kept_of task) skeleton left right
+  pub shut_skeleton : (types : List ColType) (skeleton : Tree) (left right : Option KeptPart) → AreOfParts (kept_of task) skeleton left right
       → may_open types (told_over skeleton (told left) (told right)) task.output ≡ false → serves_by (maps types (types_of task.output)) task.output.rows (over task skeleton) ≡ false
   shut_skeleton types skeleton left right are shut = shut_rows types (over task skeleton) (told_over skeleton (told left) (told right)) (over_told skeleton left right are) shut
 
@@ -244,7 +242,7 @@ module _ (task : TaskParts) where
   rows_kept skeleton kept is = ap part_rows is ∙ kept_has (length (columns task.inputs skeleton)) task.output (over task skeleton)
 
   -- so what is kept of a skeleton's parts has theirs
-  pub parts_have : (skeleton : Tree) (left right : Option KeptPart) → ArePartsOf (kept_of task) skeleton left right → ArePartsOf (over task) skeleton (part_rows left) (part_rows right)
+  pub parts_have : (skeleton : Tree) (left right : Option KeptPart) → AreOfParts (kept_of task) skeleton left right → AreOfParts (over task) skeleton (part_rows left) (part_rows right)
   parts_have (t.base table) left right are = tt
   parts_have (t.filter child p) left right are = rows_kept child left are
   parts_have (t.pair kind a b p) left right are = (rows_kept a left are.0, rows_kept b right are.1)
