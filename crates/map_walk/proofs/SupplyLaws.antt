@@ -4,18 +4,23 @@ use Rattle.std.specs.Prelude.{slice_get, unwrap_or, option_map, if◌then◌else
 use Rattle.std.specs.List.{list_all, list_any, range_with_len}
 use Rattle.std.proofs.lemmas.Bool.{and_parts, cases_lt, or_cases, false≢true}
 use Rattle.std.proofs.lemmas.List.FromFn.{length-range_with_len, length-map-range_with_len, get_or-range_with_len}
-use Rattle.std.proofs.lemmas.Option.{none-some, slice_get-map, slice_get-get_or, slice_get_past}
-use Rattle.value_core.specs.Value.{is_null}
+use Rattle.std.proofs.lemmas.Option.{none-some, same_Some, slice_get-map, slice_get-get_or, slice_get_past}
+use Rattle.value_core.specs.Value.{is_null, same}
 use Rattle.value_core.specs.declared.value.ColType.{ColType}
 use Rattle.value_core.specs.declared.value.Value.{Value}
+use Rattle.value_core.specs.declared.value.Value.TheVariants.{Null, Int, Text}
 use Rattle.predicate_core.specs.Truth.{value_at}
 use Rattle.predicate_core.proofs.NumberLaws.{get_front, get_back}
 use Rattle.predicate_core.proofs.OnceLists.{In}
 use Rattle.table_core.specs.Rows.{Row, TableData, types_of}
 use Rattle.table_core.specs.declared.column.Column.{Column}
+use Rattle.query_core.specs.Firsts.{projected}
 use Rattle.query_core.specs.Grammar.{places_of}
+use Rattle.query_core.specs.Groups.{grouped}
+use Rattle.query_core.specs.declared.agg.Agg.{Agg}
 use Rattle.query_core.specs.declared.kinds.Pairing.{Pairing}
 use Rattle.query_core.specs.declared.kinds.Pairing.TheVariants.{Join, Left}
+use Rattle.query_laws.proofs.GroupLaws.{row_of_key, group_row_is, grouped_in}
 use Rattle.map_walk.specs.Open.{some_has, serves, some_serves, all_served, is_open_by}
 use Rattle.map_walk.specs.Readings.{readings_by, has_reading_by}
 use Rattle.map_walk.specs.Supply.{serves_but_null, supply_of, column_supplies, supplies_by, supply_at, loosened, is_full, pair_supplies, group_supplies, some_full, all_full, opens, Tells}
@@ -319,3 +324,27 @@ module _ {A : Type 0} (cell_has : A → Value → Bool) (null : A) where
         λ e. key_supply keys child at place key is ∙ (tells key place).0 (serves_from output rows below at key place (from at key is) e),
         λ e. ap loosened (key_supply keys child at place key is) ∙ (tells key place).1 (but_null_from output nulls rows below at key place (λ x i. inl (from at key is x i)) e),
       )
+
+-- a cell of a row that begins with what is made of some columns
+pub key_front : {A : Type 0} (f : ℕ → A) (null : A) (keys : List ℕ) (rest : List A) (at key : ℕ) → slice_get keys at ≡ Some key → unwrap_or (slice_get (map f keys ++ rest) at) null ≡ f key
+key_front f null [] rest at key is = absurd (none-some key is)
+key_front f null (k ∷ keys) rest zero key is = ap f (same_Some k key is)
+key_front f null (k ∷ keys) rest (suc at) key is = key_front f null keys rest at key is
+
+-- ---- candidates that are rows
+
+-- NULL is the same as nothing else
+pub null_same : (v : Value) → same Null v ≡ true → is_null v ≡ true
+null_same Null e = refl
+null_same (Int n) e = absurd (false≢true e)
+null_same (Text s) e = absurd (false≢true e)
+
+-- the key values of a group's row are those of a row of its part
+pub grouped_from : (keys : List ℕ) (agg : Agg) (given out : List Row) → grouped keys agg given ≡ Some out → (at key : ℕ) → slice_get keys at ≡ Some key → AreFrom same Null out at given key
+grouped_from [] agg given out e at key is row i = absurd (none-some key is)
+grouped_from (k ∷ ks) agg given out e at key is row i =
+    let its = grouped_in (k ∷ ks) agg given out e row i in
+    let made = group_row_is (k ∷ ks) agg given its.0 row (sym its.2) in
+    let whose = row_of_key k ks given its.0 its.1 in
+    let begins : row ≡ projected (k ∷ ks) whose.0 ++ made.0 ∷ [] = made.2 ∙ ap (λ front. front ++ made.0 ∷ []) whose.2 in
+    (whose.0, whose.1, ap (λ r. value_at r at) begins ∙ key_front (value_at whose.0) Null (k ∷ ks) (made.0 ∷ []) at key is)

@@ -1,7 +1,6 @@
 -- What is kept of nodes is what is kept of the parts of later nodes.
-use Rattle.std.proofs.Common.{◌≡◌, ℕ, ◌<◌, ◌≤◌, arith, true, is_some, List, length, Option, Some, None, refl, sym, ap, subst, ◌∙◌, get_or}
+use Rattle.std.proofs.Common.{◌≡◌, ℕ, ◌<◌, ◌≤◌, arith, true, is_some, List, length, Option, Some, None, refl, sym, ap, subst, ◌∙◌}
 use Rattle.std.specs.Prelude.{slice_get, option_and_then}
-use Rattle.std.proofs.lemmas.Option.{get_or_from_slice_get}
 use Rattle.value_core.specs.declared.value.ColType.{ColType}
 use Rattle.table_core.specs.declared.task.TaskParts.{TaskParts}
 use Rattle.query_core.specs.Tree.{Tree}
@@ -12,13 +11,13 @@ use Rattle.skeleton_graph.specs.declared.node.Kind.TheVariants as kind
 use Rattle.skeleton_graph.specs.declared.node.SkelNode.{SkelNode}
 use Rattle.skeleton_graph.proofs.TreeLaws.{tree_made}
 use Rattle.over_eval.specs.Kept.{kept_child, AreKept}
-use Rattle.over_eval.specs.Parts.{ArePartsOf}
+use Rattle.over_eval.specs.Parts.{AreOfParts}
 use Rattle.over_eval.specs.Told.{kept_of}
 use Rattle.over_eval.specs.declared.kept.KeptPart.{KeptPart}
 
 -- what there is of a kind's children is what there is of the parts of its tree
 parts_of : {A : Type 0} (each : Tree → Option A) (k : Kind) (a b : Tree) (l r : Option ℕ) (left right : Option A) → HasItsChildren k l r
-    → (is_some l ≡ true → left ≡ each a) → (is_some r ≡ true → right ≡ each b) → ArePartsOf each (kind_tree k a b) left right
+    → (is_some l ≡ true → left ≡ each a) → (is_some r ≡ true → right ≡ each b) → AreOfParts each (kind_tree k a b) left right
 parts_of each (kind.Base table) a b l r left right has lefts rights = tt
 parts_of each kind.Filter a b l r left right has lefts rights = lefts has.0
 parts_of each kind.Join a b l r left right has lefts rights = (lefts has.0, rights has.1)
@@ -39,7 +38,7 @@ pub parts_kept : (task : TaskParts) (nodes : List SkelNode) (types : List (List 
     → IsGraph nodes types → ((user child : ℕ) → left_of nodes user ≡ Some child → is_some (first_use_of nodes child) ≡ true)
     → ((user child : ℕ) → right_of nodes user ≡ Some child → is_some (first_use_of nodes child) ≡ true)
     → AreKept task nodes kept → k ≤ length kept → slice_get nodes k ≡ Some node → skeleton ≡ tree_at (trees_of nodes) k
-    → left ≡ kept_child kept node.left → right ≡ kept_child kept node.right → ArePartsOf (kept_of task) skeleton left right
+    → left ≡ kept_child kept node.left → right ≡ kept_child kept node.right → AreOfParts (kept_of task) skeleton left right
 parts_kept task nodes types kept k node skeleton left right graph lefts_used rights_used are size is is_skeleton is_left is_right =
     let trees = trees_of nodes in
     let made : skeleton ≡ kind_tree node.kind (child_tree trees node.left) (child_tree trees node.right) = is_skeleton ∙ tree_made nodes k node graph.lefts graph.rights is in
@@ -49,7 +48,7 @@ parts_kept task nodes types kept k node skeleton left right graph lefts_used rig
     λ there. is_left ∙ kept_is task nodes kept node.left are (λ n e. omega (arith, size, graph.lefts k n (left_is ∙ e))) (λ n e. lefts_used k n (left_is ∙ e)) there in
     let rights : is_some node.right ≡ true → right ≡ kept_of task (child_tree trees node.right) =
     λ there. is_right ∙ kept_is task nodes kept node.right are (λ n e. omega (arith, size, graph.rights k n (right_is ∙ e))) (λ n e. rights_used k n (right_is ∙ e)) there in
-    subst (λ s. ArePartsOf (kept_of task) s left right) (sym made)
+    subst (λ s. AreOfParts (kept_of task) s left right) (sym made)
     (parts_of (kept_of task) node.kind (child_tree trees node.left) (child_tree trees node.right) node.left node.right left right (graph.shaped k node is) lefts rights)
 
 -- what is kept of a node that is a part of another is its tree's

@@ -6,7 +6,6 @@ use Rattle.std.proofs.lemmas.List.Folds.{list_all-map}
 use Rattle.std.proofs.lemmas.List.Sums.{sum_by-cons}
 use Rattle.std.proofs.lemmas.Option.{slice_get-map}
 use Rattle.value_core.specs.declared.value.ColType.{ColType}
-use Rattle.value_core.specs.declared.value.Value.{Value}
 use Rattle.value_core.specs.declared.value.Value.TheVariants.{Null}
 use Rattle.predicate_core.specs.Truth.{value_at}
 use Rattle.table_core.specs.Rows.{Row, TableData, types_of}

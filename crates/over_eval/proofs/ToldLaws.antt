@@ -1,49 +1,41 @@
 -- What is told of a skeleton's parts tells what its abstract rows have, and where it doesn't open the output they can't serve it.
-use Rattle.std.proofs.Common.{◌≡◌, refl, sym, ap, ◌∙◌, subst, ℕ, zero, suc, Bool, true, false, ◌||◌, ◌==◌, ◌⊎◌, inl, inr, List, [], ◌∷◌, ◌++◌, map, length, replicate, Option, Some, None, option_map, if◌then◌else◌}
-use Rattle.std.specs.Prelude.{slice_get, unwrap_or, flat_map}
+use Rattle.std.proofs.Common.{◌≡◌, refl, sym, ap, ◌∙◌, subst, ℕ, zero, suc, Bool, true, false, ◌==◌, inl, inr, List, [], ◌∷◌, ◌++◌, map, length, Option, Some, None, option_map, if◌then◌else◌}
+use Rattle.std.specs.Prelude.{slice_get, flat_map}
 use Rattle.std.specs.List.{list_all}
 use Rattle.std.proofs.lemmas.Bool.{cases_Bool, eqb-true, false≢true}
-use Rattle.std.proofs.lemmas.List.{length-map}
-use Rattle.std.proofs.lemmas.Option.{none-some, same_Some, slice_get-map, slice_get_within}
-use Rattle.value_core.specs.Value.{same, is_null}
+use Rattle.std.proofs.lemmas.Option.{none-some, same_Some}
 use Rattle.value_core.specs.declared.value.ColType.{ColType}
 use Rattle.value_core.specs.declared.value.Value.{Value}
-use Rattle.value_core.specs.declared.value.Value.TheVariants.{Null, Int, Text}
-use Rattle.predicate_core.proofs.NumberLaws.{get_front}
+use Rattle.value_core.specs.declared.value.Value.TheVariants.{Null}
+use Rattle.predicate_core.specs.Truth.{value_at}
 use Rattle.predicate_core.proofs.OnceLists.{In, in_append, in_map, in_at}
 use Rattle.table_core.specs.Rows.{Row, TableData, types_of}
 use Rattle.table_core.specs.declared.task.TaskParts.{TaskParts}
 use Rattle.query_core.specs.Tree.{Tree}
 use Rattle.query_core.specs.Tree as t
 use Rattle.query_core.specs.Firsts.{projected}
-use Rattle.query_core.specs.Groups.{group_keys, group_row, members, grouped}
+use Rattle.query_core.specs.Groups.{group_keys, grouped}
 use Rattle.query_core.specs.Grammar.{maps}
 use Rattle.query_core.specs.Meaning.{columns, rows, of_rows}
 use Rattle.query_core.specs.declared.agg.Agg.{Agg}
 use Rattle.query_core.specs.declared.kinds.Pairing.{Pairing}
 use Rattle.query_core.specs.declared.kinds.Pairing.TheVariants.{Join, Left}
 use Rattle.query_laws.proofs.AscendingLists.{of_all}
-use Rattle.query_laws.proofs.GroupLaws.{row_of_key, group_row_is, grouped_in}
+use Rattle.query_laws.proofs.GroupLaws.{row_of_key}
 use Rattle.query_laws.proofs.MemberLaws.{in_flat_map, map_in}
-use Rattle.map_walk.specs.Supply.{supplies_by, pair_supplies, group_supplies, opens, Tells}
+use Rattle.map_walk.specs.Supply.{supplies_by, pair_supplies, group_supplies, Tells}
 use Rattle.map_walk.specs.declared.supply.Supply.{Supply}
-use Rattle.map_walk.proofs.SupplyLaws.{told_has_closed, supplies_tell, supplies_wide, IsPaired, AreFrom, pair_tells, group_tells}
-use Rattle.over_cells.specs.Cells.{covers, value_of, is_known, are_known}
+use Rattle.map_walk.proofs.SupplyLaws.{told_has_closed, supplies_tell, supplies_wide, IsPaired, AreFrom, pair_tells, group_tells, key_front, null_same, grouped_from}
+use Rattle.over_cells.specs.Cells.{covers, value_of, is_known}
 use Rattle.over_cells.specs.declared.cell.AbsCell.{AbsCell}
 use Rattle.over_cells.specs.declared.cell.AbsCell.TheVariants.{Known, From, Within, Any}
 use Rattle.over_eval.specs.Over.{AbsRow, exact_row, cell_at, cells_at, plain, has_hole, pairs_over, padded_over, over_pair, members_over, cell_of, group_over, knows, any_group, groups_over, over_both, exact, over}
 use Rattle.over_eval.specs.Live.{serves_by}
-use Rattle.over_eval.specs.Parts.{ArePartsOf}
+use Rattle.over_eval.specs.Parts.{AreOfParts}
 use Rattle.over_eval.specs.Told.{cells_have, are_wide, told_of, kept_rows, kept_of, part_rows, told, told_both, told_over, may_open}
 use Rattle.over_eval.specs.declared.kept.KeptPart.{KeptPart}
 use Rattle.over_eval.proofs.NeverLaws.{whole_over}
 use Rattle.over_eval.proofs.RowLaws.{projected_plain, serves_where_read}
-
--- a known NULL covers nothing else
-null_alone : (v : Value) → covers (Known Null) v ≡ true → is_null v ≡ true
-null_alone Null e = refl
-null_alone (Int n) e = absurd (false≢true e)
-null_alone (Text s) e = absurd (false≢true e)
 
 -- ---- what is told of rows
 
@@ -83,12 +75,6 @@ paired_rows Left width lefts rights cells i =
 
 -- ---- rows of a group
 
--- a key cell of a row that begins with its key cells
-key_front : (f : ℕ → AbsCell) (keys : List ℕ) (rest : AbsRow) (at key : ℕ) → slice_get keys at ≡ Some key → cell_at (map f keys ++ rest) at ≡ f key
-key_front f [] rest at key is = absurd (none-some key is)
-key_front f (k ∷ keys) rest zero key is = ap f (same_Some k key is)
-key_front f (k ∷ keys) rest (suc at) key is = key_front f keys rest at key is
-
 known_cell : (cell : AbsCell) → is_known cell ≡ true → Known (value_of cell) ≡ cell
 known_cell (Known v) e = refl
 known_cell (From values null) e = absurd (false≢true e)
@@ -114,12 +100,12 @@ known_from (k ∷ ks) agg over known at key is g i =
     let rest : AbsRow = cell_of keys agg (members_over keys over h.0) ∷ [] in
     let begins : g ≡ map (λ n. Known (value_of (cell_at cells.0 n))) keys ++ rest = h.2 ∙ ap (λ r. exact_row r ++ rest) (row.2 ∙ ap (projected keys) cells.2) ∙ ap (λ r. r ++ rest) (exact_keys keys cells.0) in
     let knows_it : is_known (cell_at cells.0 key) ≡ true = of_all is_known (cell_at cells.0 key) (cells_at keys cells.0) (of_all (knows keys) cells.0 over known cells.1) (map_in (cell_at cells.0) key keys (in_at keys at key is)) in
-    (cells.0, cells.1, ap (λ r. cell_at r at) begins ∙ key_front (λ n. Known (value_of (cell_at cells.0 n))) keys rest at key is ∙ known_cell (cell_at cells.0 key) knows_it)
+    (cells.0, cells.1, ap (λ r. cell_at r at) begins ∙ key_front (λ n. Known (value_of (cell_at cells.0 n))) (Known Null) keys rest at key is ∙ known_cell (cell_at cells.0 key) knows_it)
 
 any_from : (keys : List ℕ) (over : List AbsRow) (at key : ℕ) → slice_get keys at ≡ Some key → AreFrom covers (Known Null) (map (any_group keys) over) at over key
 any_from keys over at key is g i =
     let h = in_map (any_group keys) g over i in
-    (h.0, h.1, ap (λ r. cell_at r at) h.2 ∙ key_front (cell_at h.0) keys (Any ∷ []) at key is)
+    (h.0, h.1, ap (λ r. cell_at r at) h.2 ∙ key_front (cell_at h.0) (Known Null) keys (Any ∷ []) at key is)
 
 groups_from : (keys : List ℕ) (agg : Agg) (over : List AbsRow) (at key : ℕ) → slice_get keys at ≡ Some key → AreFrom covers (Known Null) (groups_over keys agg over) at over key
 groups_from keys agg over at key is =
@@ -129,28 +115,17 @@ groups_from keys agg over at key is =
     ]
 
 -- the cell of a column of a known row
-exact_cell : (row : Row) (at : ℕ) → cell_at (exact_row row) at ≡ Known (unwrap_or (slice_get row at) Null)
+exact_cell : (row : Row) (at : ℕ) → cell_at (exact_row row) at ≡ Known (value_at row at)
 exact_cell [] at = refl
 exact_cell (v ∷ row) zero = refl
 exact_cell (v ∷ row) (suc at) = exact_cell row at
 
 -- without holes the key cells of a group's row are those of a row of its part
 whole_from : (keys : List ℕ) (agg : Agg) (given out : List Row) → grouped keys agg given ≡ Some out → (at key : ℕ) → slice_get keys at ≡ Some key → AreFrom covers (Known Null) (map exact_row out) at (map exact_row given) key
-whole_from [] agg given out e at key is cells i = absurd (none-some key is)
-whole_from (k ∷ ks) agg given out e at key is cells i =
-    let keys = k ∷ ks in
+whole_from keys agg given out e at key is cells i =
     let row = in_map exact_row cells out i in
-    let its = grouped_in keys agg given out e row.0 row.1 in
-    let made = group_row_is keys agg given its.0 row.0 (sym its.2) in
-    let whose = row_of_key k ks given its.0 its.1 in
-    let rest : AbsRow = Known made.0 ∷ [] in
-    let begins : cells ≡ exact_row (its.0 ++ made.0 ∷ []) = row.2 ∙ ap exact_row made.2 in
-    let split : cells ≡ map (λ n. cell_at (exact_row whose.0) n) keys ++ rest = begins ∙ ap (λ r. exact_row (r ++ made.0 ∷ [])) whose.2 ∙ keys_then keys whose.0 made.0 in
-    (exact_row whose.0, map_in exact_row whose.0 given whose.1, ap (λ r. cell_at r at) split ∙ key_front (λ n. cell_at (exact_row whose.0) n) keys rest at key is)
-  where
-    keys_then : (keys : List ℕ) (row : Row) (v : Value) → exact_row (projected keys row ++ v ∷ []) ≡ map (λ n. cell_at (exact_row row) n) keys ++ Known v ∷ []
-    keys_then [] row v = refl
-    keys_then (n ∷ ns) row v = rw (exact_cell row n) (ap (λ r. Known (unwrap_or (slice_get row n) Null) ∷ r) (keys_then ns row v))
+    let from = grouped_from keys agg given out e at key is row.0 row.1 in
+    (exact_row from.0, map_in exact_row from.0 given from.1, ap (λ c. cell_at c at) row.2 ∙ exact_cell row.0 at ∙ ap Known from.2 ∙ sym (exact_cell from.0 key))
 
 -- ---- what is told of a skeleton
 
@@ -185,7 +160,7 @@ module _ (task : TaskParts) where
       let s = both_told (pair_supplies kind) (told left) (told right) supplies e in
       let of_left = part_told a left h.0 s.0 is_left h.2 s.2 in
       let of_right = part_told b right h.1 s.1 is_right h.3 s.3 in
-      let tells = pair_tells covers (Known Null) null_alone kind h.0 h.1 (over_pair kind width h.0 h.1) task.output.rows s.0 s.1 of_left.1 (paired_rows kind width h.0 h.1) of_left.0 of_right.0 in
+      let tells = pair_tells covers (Known Null) null_same kind h.0 h.1 (over_pair kind width h.0 h.1) task.output.rows s.0 s.1 of_left.1 (paired_rows kind width h.0 h.1) of_left.0 of_right.0 in
       rw (h.4, s.4) tells
 
   group_told : (child : Tree) (keys : List ℕ) (agg : Agg) (left : Option KeptPart) → left ≡ kept_of task child → SkeletonTold (t.group child keys agg) (option_map (group_supplies keys) (told left))
@@ -195,7 +170,7 @@ module _ (task : TaskParts) where
       from_part below is_below from =
           let s = one_there (group_supplies keys) (told left) supplies e in
           let of_child = part_told child left below s.0 is is_below s.1 in
-          let tells = group_tells covers (Known Null) null_alone keys below out task.output.rows s.0 from of_child.0 in
+          let tells = group_tells covers (Known Null) null_same keys below out task.output.rows s.0 from of_child.0 in
           rw (s.2) tells
 
       by : (b : Bool) → has_hole child ≡ b → Tells cells_have out task.output.rows supplies
@@ -215,7 +190,7 @@ module _ (task : TaskParts) where
           group_given (Some given) made e = (given, refl, e)
 
   -- what is told of a skeleton by what is kept of its parts is true of its abstract rows
-  over_told : (skeleton : Tree) (left right : Option KeptPart) → ArePartsOf (kept_of task) skeleton left right → SkeletonTold skeleton (told_over skeleton (told left) (told right))
+  over_told : (skeleton : Tree) (left right : Option KeptPart) → AreOfParts (kept_of task) skeleton left right → SkeletonTold skeleton (told_over skeleton (told left) (told right))
   over_told (t.base table) left right are out supplies there e = absurd (none-some supplies e)
   over_told (t.filter child p) left right are out supplies there e = (part_told child left out supplies are there e).0
   over_told (t.pair kind a b p) left right are out supplies there e = pair_told kind a b left right are.0 are.1 out supplies there e
@@ -230,7 +205,7 @@ module _ (task : TaskParts) where
   shut_rows types (Some out) (Some supplies) tells shut = sym (serves_where_read types out task.output) ∙ told_has_closed cells_have types out task.output supplies (tells out supplies refl refl) shut
 
   -- where what is kept of a skeleton's parts tells that it can't have all values of the output, its abstract rows don't serve it
-  pub shut_skeleton : (types : List ColType) (skeleton : Tree) (left right : Option KeptPart) → ArePartsOf (kept_of task) skeleton left right
+  pub shut_skeleton : (types : List ColType) (skeleton : Tree) (left right : Option KeptPart) → AreOfParts (kept_of task) skeleton left right
       → may_open types (told_over skeleton (told left) (told right)) task.output ≡ false → serves_by (maps types (types_of task.output)) task.output.rows (over task skeleton) ≡ false
   shut_skeleton types skeleton left right are shut = shut_rows types (over task skeleton) (told_over skeleton (told left) (told right)) (over_told skeleton left right are) shut
 
@@ -244,7 +219,7 @@ module _ (task : TaskParts) where
   rows_kept skeleton kept is = ap part_rows is ∙ kept_has (length (columns task.inputs skeleton)) task.output (over task skeleton)
 
   -- so what is kept of a skeleton's parts has theirs
-  pub parts_have : (skeleton : Tree) (left right : Option KeptPart) → ArePartsOf (kept_of task) skeleton left right → ArePartsOf (over task) skeleton (part_rows left) (part_rows right)
+  pub parts_have : (skeleton : Tree) (left right : Option KeptPart) → AreOfParts (kept_of task) skeleton left right → AreOfParts (over task) skeleton (part_rows left) (part_rows right)
   parts_have (t.base table) left right are = tt
   parts_have (t.filter child p) left right are = rows_kept child left are
   parts_have (t.pair kind a b p) left right are = (rows_kept a left are.0, rows_kept b right are.1)

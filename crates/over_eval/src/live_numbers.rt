@@ -8,7 +8,7 @@ ghost use Rattle.over_eval.specs.Kept.{kept_child, AreKept};
 ghost use Rattle.over_eval.specs.Laws.{live_numbers};
 ghost use Rattle.over_eval.specs.Live.{serves_by, live};
 ghost use Rattle.over_eval.specs.Over.{over};
-ghost use Rattle.over_eval.specs.Parts.{ArePartsOf};
+ghost use Rattle.over_eval.specs.Parts.{AreOfParts};
 ghost use Rattle.over_eval.specs.Told.{kept_of};
 
 use crate::below::rows_of;
@@ -59,7 +59,7 @@ fn over_kept(
     skeleton: &Node,
     below: &KeptBelow<'_>,
 ) -> Result<Option<Items<AbsRow>>, OutOfMemory>
-    requires { ArePartsOf (kept_of task.now) (tree skeleton.now) (option_copied below.now.left) (option_copied below.now.right) }
+    requires { AreOfParts (kept_of task.now) (tree skeleton.now) (option_copied below.now.left) (option_copied below.now.right) }
     ensures { IfOk result (λ rows. rows ≡ over task.now (tree skeleton.now)) }
 {
     over_node(alloc, task.parts(), skeleton, &below.rows())
@@ -132,7 +132,7 @@ fn is_live_over(
     below: &KeptBelow<'_>,
 ) -> Result<bool, OutOfMemory>
     requires types { types.now ≡ columns task.now.inputs (tree skeleton.now) }
-    requires below { ArePartsOf (kept_of task.now) (tree skeleton.now) (option_copied below.now.left) (option_copied below.now.right) }
+    requires below { AreOfParts (kept_of task.now) (tree skeleton.now) (option_copied below.now.left) (option_copied below.now.right) }
     ensures { IfOk result (λ b. b ≡ live task.now (tree skeleton.now)) }
 {
     if !below.may_open(skeleton, types, task.output()) {

@@ -1,15 +1,8 @@
-use Rattle.std.proofs.Common.{◌≡◌, sym, ap, arith, true, is_some, ◌∙◌}
+use Rattle.std.proofs.Common.{sym, ap, arith}
 use Rattle.std.specs.Prelude.{unwrap_or}
-use Rattle.rayon.proofs.ListFacts.{IfOk-then}
-use Rattle.table_core.specs.Rows.{types_of}
-use Rattle.query_core.specs.Grammar.{maps}
-use Rattle.query_core.specs.Meaning.{columns}
 use Rattle.query_core.specs.Tree as t
 use Rattle.query_core.specs.View.{tree}
-use Rattle.skeleton_graph.specs.Nodes.{tree_at, trees_of}
-use Rattle.over_eval.specs.Live.{serves_by}
-use Rattle.over_eval.specs.Over.{over}
-use Rattle.over_eval.proofs.KeptLaws.{parts_kept, kept_read}
+use Rattle.over_eval.proofs.KeptLaws.{parts_kept}
 use Rattle.over_eval.proofs.live_numbers.is_live_at.Goals as goal
 
 pub is_live_over-requires-clause-below : goal.is_live_over-requires-clause-below

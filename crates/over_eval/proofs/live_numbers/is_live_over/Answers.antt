@@ -1,4 +1,4 @@
-use Rattle.std.proofs.Common.{◌≡◌, Bool, false, option_copied, rules, sym, ap, ◌∙◌}
+use Rattle.std.proofs.Common.{◌≡◌, false, option_copied, rules, sym, ap, ◌∙◌}
 use Rattle.table_core.specs.Rows.{types_of}
 use Rattle.query_core.specs.Grammar.{maps}
 use Rattle.query_core.specs.View.{tree}
