@@ -1,5 +1,5 @@
 -- The fillings that offers are.
-use Rattle.std.proofs.Common.{◌≡◌, ℕ, zero, suc, ◌*◌, ◌<◌, arith, get_or, Bool, true, false, not, List, [], ◌∷◌, ◌++◌, map, refl, sym, ap, ap₂, ◌∙◌, length, if◌then◌else◌}
+use Rattle.std.proofs.Common.{◌≡◌, ℕ, zero, suc, ◌*◌, ◌<◌, arith, get_or, Bool, true, false, not, List, [], ◌∷◌, ◌++◌, map, refl, sym, ap, ap₂, subst, ◌∙◌, length, Option, Some, None, if◌then◌else◌}
 use Rattle.std.specs.Prelude.{filter, All}
 use Rattle.std.specs.List.{flat_map}
 use Rattle.std.proofs.lemmas.List.{append-nil, length-map, length-replicate}
@@ -13,10 +13,14 @@ use Rattle.table_core.specs.declared.task.TaskParts.{TaskParts}
 use Rattle.query_core.specs.Joins.{crossed, crossed_and_padded}
 use Rattle.query_core.specs.Grammar.{predicates}
 use Rattle.query_core.specs.Standard.{is_first, keeps_all}
-use Rattle.query_core.specs.Filled.{Filled, may_filter, filled_filter, filled_filters, first_preds, filled_pair, filled_pairs}
+use Rattle.query_core.specs.Filled.{Filled, may_filter, filled_filter, filled_filters, first_preds, filled_pair, filled_pairs, filled_group, filled_groups}
+use Rattle.query_core.specs.Groups.{grouped}
+use Rattle.query_core.specs.Meaning.{group_types}
+use Rattle.query_core.specs.declared.agg.Agg.{Agg}
+use Rattle.query_core.specs.declared.kinds.Pairing.{Pairing}
 use Rattle.query_core.specs.declared.kinds.Pairing.TheVariants.{Join, Left}
 use Rattle.fill_core.specs.Choices.{chosen, hole_choices, drops_some, every, with_alone, left_choice}
-use Rattle.fill_core.specs.Offers.{filled_by, filled_by_all, Gathered, GivesNothing}
+use Rattle.fill_core.specs.Offers.{filled_by, filled_by_all, pair_candidates, Gathered, GivesNothing}
 use Rattle.fill_core.specs.declared.choice.Choice.{Choice}
 use Rattle.fill_core.proofs.MaskLaws.{masked_filter, masked_full, joined_is, left_joined_is, length_crossed, length_with_alone, length_padded}
 
@@ -189,3 +193,24 @@ no_left_joins task gives held a b types candidates is_types is_candidates none =
     let same = left_joins_of task a b types (a.preds ++ b.preds) candidates choices is_types refl is_candidates refl in
     let wide : All (λ c. length c.bits ≡ length candidates) choices = rw is_candidates (lefts_wide task types (length b.types) a.rows b.rows) in
     nothing_more gives held types (a.preds ++ b.preds) candidates choices _ none wide same
+
+-- what gives nothing of a pair's candidates does so of equal ones
+pub same_pair : {Item : Type 0} (gives : Filled → List Item) (kind wanted : Pairing) (types own : List ColType) (padding width : ℕ) (lefts ls rights rs : List Row)
+    → kind ≡ wanted → types ≡ own → padding ≡ width → lefts ≡ ls → rights ≡ rs → GivesNothing gives types (pair_candidates kind padding lefts rights) → GivesNothing gives own (pair_candidates wanted width ls rs)
+same_pair gives kind wanted types own padding width lefts ls rights rs is_kind is_types is_width is_lefts is_rights none =
+    subst (λ r. GivesNothing gives own (pair_candidates wanted width ls r)) is_rights
+    (subst (λ l. GivesNothing gives own (pair_candidates wanted width l rights)) is_lefts
+    (subst (λ w. GivesNothing gives own (pair_candidates wanted w lefts rights)) is_width
+    (subst (λ t. GivesNothing gives t (pair_candidates wanted padding lefts rights)) is_types
+    (subst (λ k. GivesNothing gives types (pair_candidates k padding lefts rights)) is_kind none))))
+
+-- nothing is gathered of groups, where nothing is given of their rows
+pub no_groups : {Item : Type 0} (gives : Filled → List Item) (held : List Item) (keys : List ℕ) (agg : Agg) (c : Filled) (types : List ColType)
+    → types ≡ group_types c.types keys agg → ((groups : List Row) → grouped keys agg c.rows ≡ Some groups → GivesNothing gives types groups) → held ≡ held ++ flat_map gives (filled_groups keys agg c)
+no_groups gives held keys agg c types is_types none = by (grouped keys agg c.rows) refl
+  where
+    by : (o : Option (List Row)) → grouped keys agg c.rows ≡ o → held ≡ held ++ flat_map gives (filled_group keys agg c o)
+    by None is = sym (append-nil held)
+    by (Some groups) is =
+        let one = no_whole gives held types c.preds groups (none groups is) in
+        one ∙ ap (λ ts. let f : Filled = record { types = ts; preds = c.preds; rows = groups } in held ++ flat_map gives (f ∷ [])) is_types

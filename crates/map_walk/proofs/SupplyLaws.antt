@@ -113,9 +113,9 @@ module _ {X : Type 0} (has : X → ℕ → Value → Bool) (width : ℕ) (candid
   told_at at place =
       elim (cases_lt at width) [
         | inl within ↦ elim (cases_lt place (length table.columns)) [
-            | inl below ↦ inr (told_there at place within below)
-            | inr past ↦ inl (told_past at place past)
-          ]
+          | inl below ↦ inr (told_there at place within below)
+          | inr past ↦ inl (told_past at place past)
+        ]
         | inr outside ↦ inl (told_outside at place outside)
       ]
 

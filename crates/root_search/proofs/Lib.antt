@@ -5,3 +5,4 @@ pub mod ManyLaws
 pub mod ReadLaws
 pub mod ReadingLaws
 pub mod RowCountLaws
+pub mod ShutLaws

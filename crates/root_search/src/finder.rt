@@ -1,7 +1,10 @@
+ghost use Rattle.std.specs.Prelude.{◌≡◌, ◌==◌, length};
+ghost use Rattle.std.specs.List.{list_all};
+
 use crate::refill::refilled;
 use crate::target::bits_give;
-use fill_core::{Choice, FillEnd, Offer, Receiver};
-use map_walk::{Reading, is_open, readings};
+use fill_core::{Choice, FillEnd, GroupSeen, Offer, PairSeen, Receiver};
+use map_walk::{Reading, Standing, is_open, readings, standing_group_opens, standing_pair_opens};
 use predicate_core::Pred;
 use query_core::{Node, Query};
 use rank_core::{Ranked, key};
@@ -17,6 +20,13 @@ pub struct Root<'a> {
     pub number: u32,
     pub skeleton: &'a Node,
     pub bound: Option<u64>,
+}
+
+// Whether rows have so many columns.
+fn are_wide(width: usize, rows: &[Tuple]) -> bool
+    ensures { result ≡ list_all (λ row. length row == width) rows.now }
+{
+    rows.iter().all(|row| row.cells().len() == width)
 }
 
 // A choice of an offer, with one reading and with several.
@@ -196,6 +206,30 @@ impl Receiver for Root<'_> {
     ghost accepts = { λ f filled. FillingFits f.task.now (tree f.skeleton.now) filled };
 
     ghost found = { λ f types candidates list. list ≡ readings types candidates f.task.now.output };
+
+    fn is_shut_pair(&self, seen: &PairSeen<'_>) -> bool {
+        let width = seen.left.len();
+        if !are_wide(width, seen.lefts) {
+            return false;
+        }
+        let left = Standing {
+            width,
+            rows: seen.lefts,
+        };
+        let right = Standing {
+            width: seen.right.len(),
+            rows: seen.rights,
+        };
+        !standing_pair_opens(seen.kind, &left, &right, seen.types, self.task.output())
+    }
+
+    fn is_shut_group(&self, seen: &GroupSeen<'_>) -> bool {
+        let part = Standing {
+            width: seen.child.len(),
+            rows: seen.rows,
+        };
+        !standing_group_opens(seen.keys, &part, seen.types, self.task.output())
+    }
 
     fn look(
         &self,

@@ -1,8 +1,10 @@
-use Rattle.std.proofs.Common.{ap, Ok, ◌∙◌, rules}
+use Rattle.std.proofs.Common.{ap, length, refl, sym, Ok, ◌∙◌, rules}
 use Rattle.std.proofs.lemmas.Result.{on_ok_weaker}
 use Rattle.fill_core.specs.View.{entry_filled}
-use Rattle.fill_core.proofs.OfferLaws.{joins_of, accepted, gathered, no_joins}
+use Rattle.fill_core.proofs.OfferLaws.{joins_of, accepted, gathered, no_joins, same_pair}
 use Rattle.fill_core.proofs.BoundLaws.{too_much_same}
+use Rattle.query_core.specs.declared.kinds.Pairing.TheVariants.{Join}
+use Rattle.fill_core.specs.Offers.{pair_candidates, GivesNothing}
 use Rattle.fill_core.proofs.between.Between.hand_joins.Goals as goal
 
 pub take-requires-clause-accepts : goal.take-requires-clause-accepts
@@ -33,3 +35,13 @@ returns-in_default-clause-gathered g c =
     let b = entry_filled c.args.self.now.right.now c.args.parts.now.right.now in
     no_joins c.args.self.now.task.now (g.R.Receiver.gives c.args.receiver.now) (g.R.Receiver.held c.args.receiver.now c.args.store.now) a b c.args.self.now.types.now c.as_slice.result.now c.requires.same
     (c.as_slice.ensures ∙ c.in_ok-pairs.ensures ∙ search (rules, c.as_slice-lefts.ensures, c.as_slice-rights.ensures)) (c.look.ensures.nothing (c.in_ok-findings.was ∙ ap Ok c.in_default.is))
+
+pub returns-then-is_shut_pair-clause-gathered : goal.returns-then-is_shut_pair-clause-gathered
+returns-then-is_shut_pair-clause-gathered g c =
+    let s = c.args.self.now in
+    let p = c.args.parts.now in
+    let gives = g.R.Receiver.gives c.args.receiver.now in
+    let none = c.is_shut_pair.ensures c.if-is_shut_pair.true in
+    no_joins s.task.now gives (g.R.Receiver.held c.args.receiver.now c.args.store.now) (entry_filled s.left.now p.left.now) (entry_filled s.right.now p.right.now) s.types.now (pair_candidates Join (length s.right.now) p.left.now.rows p.right.now.rows)
+    c.requires.same refl (same_pair gives c.seen.result.kind Join c.seen.result.types.now s.types.now (length c.seen.result.right.now) (length s.right.now) c.seen.result.lefts.now p.left.now.rows c.seen.result.rights.now p.right.now.rows
+    c.seen.ensures.kind c.seen.ensures.types (ap length c.seen.ensures.right) c.seen.ensures.lefts c.seen.ensures.rights none)
