@@ -1,4 +1,5 @@
 pub mod ChoiceLaws
+pub mod FitLaws
 pub mod JobLaws
 pub mod MaskLaws
 pub mod OfferLaws

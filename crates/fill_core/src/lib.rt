@@ -15,6 +15,7 @@ mod over;
 mod parts;
 mod plan;
 mod receiver;
+mod same;
 mod site;
 mod steps;
 
