@@ -1,12 +1,12 @@
 -- Laws of jobs: what a job stands on is done before it.
-use Rattle.std.proofs.Common.{◌≡◌, refl, sym, ap, ◌∙◌, subst, ℕ, zero, suc, ◌+◌, ◌<◌, ◌≤◌, Bool, true, false, ◌⊎◌, inl, inr, List, [], ◌∷◌, ◌++◌, length, map, take, Some, None, arith}
-use Rattle.std.specs.Prelude.{All, Contains, filter, slice_get}
+use Rattle.std.proofs.Common.{◌≡◌, refl, sym, ap, subst, ℕ, zero, suc, ◌+◌, ◌<◌, ◌≤◌, Bool, true, false, ◌⊎◌, inl, inr, List, [], ◌∷◌, ◌++◌, length, map, take, Some, arith}
+use Rattle.std.specs.Prelude.{All, filter, slice_get}
 use Rattle.std.specs.List.{range_with_len}
 use Rattle.std.proofs.lemmas.Bool.{cases_Bool}
 use Rattle.std.proofs.lemmas.List.{take_all, length-map}
 use Rattle.std.proofs.lemmas.List.Elements.{All-nil, All-cons, All-append, All-head, All-tail}
 use Rattle.std.proofs.lemmas.Option.{none-some, same_Some}
-use Rattle.predicate_core.proofs.OnceLists.{In, in_at, at_in}
+use Rattle.predicate_core.proofs.OnceLists.{In, in_at}
 use Rattle.query_laws.proofs.ListLaws.{contains_in, in_contains}
 use Rattle.query_laws.proofs.MemberLaws.{map_in, in_filter, in_range}
 use Rattle.skeleton_graph.specs.declared.node.SkelNode.{SkelNode}

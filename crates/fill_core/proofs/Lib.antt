@@ -1,3 +1,4 @@
+pub mod BoundLaws
 pub mod ChoiceLaws
 pub mod FitLaws
 pub mod JobLaws

@@ -1,22 +1,18 @@
 -- Laws of plans: the marks that go down from the roots are those of the nodes from which marks go up to a root.
-use Rattle.std.proofs.Common.{◌≡◌, ◌≢◌, refl, sym, ap, ap₂, ◌∙◌, subst, ℕ, zero, suc, ◌+◌, ◌<◌, ◌≤◌, Bool, true, false, cond, ◌==◌, ◌||◌, ◌⊎◌, inl, inr, List, [], ◌∷◌, ◌++◌, length, get_or, set, replicate, map, Option, Some, None, arith, length-append, if◌then◌else◌}
-use Rattle.std.specs.Prelude.{All, Contains, filter, not, ◌&&◌, slice_get, option_and_then}
-use Rattle.std.specs.List.{list_any, range_with_len}
+use Rattle.std.proofs.Common.{◌≡◌, ◌≢◌, refl, sym, ap, ◌∙◌, subst, ℕ, zero, suc, ◌+◌, ◌<◌, ◌≤◌, Bool, true, false, cond, ◌==◌, ◌||◌, ◌⊎◌, inl, inr, List, [], ◌∷◌, ◌++◌, length, get_or, set, replicate, map, Option, Some, None, arith, length-append, if◌then◌else◌}
+use Rattle.std.specs.Prelude.{All, filter, slice_get, option_and_then}
+use Rattle.std.specs.List.{range_with_len}
 use Rattle.std.specs.List.Sorted.{IsStrictlyIncreasing}
-use Rattle.std.proofs.lemmas.Bool.{false≢true, not_from_false, and_from, and_parts, or_cases, or_left, or_right, cases_eq, eqb-true, eq-eqb, ne_eqb}
-use Rattle.std.proofs.lemmas.Option.{option_and_then_some, slice_get_cases, slice_get_within, slice_get-get_or, get_or_from_slice_get, unwrap_or-slice_get}
-use Rattle.std.proofs.lemmas.List.{get_or_append_left, get_or_at, get_or_past, get_or-set_same, length-set, length-replicate, length_push, length-map}
+use Rattle.std.proofs.lemmas.Bool.{false≢true, or_cases, or_left, or_right, cases_eq, eqb-true, eq-eqb}
+use Rattle.std.proofs.lemmas.Option.{option_and_then_some, slice_get_cases, slice_get_within, unwrap_or-slice_get}
+use Rattle.std.proofs.lemmas.List.{get_or_past, get_or-set_same, length-set, length-replicate, length-map}
 use Rattle.std.proofs.lemmas.List.FromFn.{length-range_with_len}
-use Rattle.value_core.specs.declared.value.ColType.{ColType}
-use Rattle.predicate_core.proofs.OnceLists.{In, in_same, in_append, in_at, at_in}
+use Rattle.predicate_core.proofs.OnceLists.{In}
 use Rattle.query_laws.proofs.ListLaws.{contains_in, in_contains}
-use Rattle.query_laws.proofs.MemberLaws.{in_front, in_back, in_filter, filter_in, range_in}
+use Rattle.query_laws.proofs.MemberLaws.{in_filter, filter_in, range_in}
 use Rattle.skeleton_graph.specs.declared.node.SkelNode.{SkelNode}
 use Rattle.skeleton_graph.specs.Nodes.{left_of, right_of, is_among, is_marked, marks_after, above_of}
-use Rattle.skeleton_graph.specs.GraphData.{Descends, IsGraph}
 use Rattle.skeleton_graph.proofs.AboveLaws.{Falls, any_in, in_any, among_in, in_among, same_tests, size_after, up, up_made, above_up, up_above}
-use Rattle.skeleton_graph.proofs.BoundLaws.{Below}
-use Rattle.skeleton_graph.proofs.ChainLaws.{below_is}
 use Rattle.fill_core.specs.declared.job.Job.{Job}
 use Rattle.fill_core.specs.declared.job.Job.TheVariants.{Inner, Root}
 use Rattle.fill_core.specs.Plans.{is_inner, inner_of, jobs_of, IsChild, HasJob, ChildrenAreInner}

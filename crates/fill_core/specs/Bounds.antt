@@ -1,5 +1,5 @@
 -- Bounds of what is filled and found, and how many combinations of its parts' fillings a node has.
-use Rattle.std.specs.Prelude.{ℕ, ◌*◌, ◌<◌, ◌≤◌, length, Option, Some, None}
+use Rattle.std.specs.Prelude.{◌≡◌, ℕ, ◌+◌, ◌*◌, ◌<◌, ◌≤◌, length, Option, Some, None}
 use Rattle.table_core.specs.declared.task.TaskParts.{TaskParts}
 use Rattle.query_core.specs.Filled.{standard_fillings}
 use Rattle.query_core.specs.Tree.{Tree}
@@ -14,6 +14,13 @@ Passes (Some bound) n = bound < n
 abbrev pub IsWithin : Option ℕ → ℕ → Type 0
 IsWithin None n = Unit
 IsWithin (Some bound) n = n ≤ bound
+
+-- what is left of a bound, where there is one, and a number are together the bound
+abbrev pub Leaves : Option ℕ → Option ℕ → ℕ → Type 0
+Leaves None None n = Unit
+Leaves None (Some left) n = ⊥
+Leaves (Some bound) None n = ⊥
+Leaves (Some bound) (Some left) n = left + n ≡ bound
 
 -- how many standard fillings a skeleton has
 abbrev pub fillings_in : TaskParts → Tree → ℕ

@@ -1,10 +1,12 @@
 -- Candidate rows with choices, the fillings that they are, and what is gathered of them.
-use Rattle.std.specs.Prelude.{◌≡◌, List, length, [], ◌∷◌, ◌++◌, map, flat_map, Option, Some, None}
+use Rattle.std.specs.Prelude.{◌≡◌, ℕ, List, length, [], ◌∷◌, ◌++◌, map, flat_map, Option, Some, None}
+use Rattle.std.specs.List.{sum_by}
 use Rattle.value_core.specs.declared.value.ColType.{ColType}
 use Rattle.predicate_core.specs.declared.pred.Pred.{Pred}
 use Rattle.table_core.specs.Rows.{Row}
 use Rattle.bit_rows.specs.Masked.{masked}
 use Rattle.query_core.specs.Filled.{Filled}
+use Rattle.fill_core.specs.Bounds.{Passes}
 use Rattle.fill_core.specs.declared.choice.Choice.{Choice}
 
 -- the element, where there is one
@@ -23,6 +25,10 @@ filled_by_all types preds candidates choices = map (filled_by types preds candid
 -- a store holds what it held and, behind it, what is gathered of some fillings
 abbrev pub Gathered : {Store Item : Type 0} → (Store → List Item) → (Filled → List Item) → Store → Store → List Filled → Type 0
 Gathered held gives before after fillings = held after ≡ held before ++ flat_map gives fillings
+
+-- what a store holds and what is gathered of some fillings weigh together more than a bound, where there is one
+abbrev pub TooMuch : {Item : Type 0} → Option ℕ → (Item → ℕ) → (Filled → List Item) → List Item → List Filled → Type 0
+TooMuch bound weigh gives held fillings = Passes bound (sum_by weigh (held ++ flat_map gives fillings))
 
 -- no choice of some candidate rows, in columns of these types, gives anything
 abbrev pub GivesNothing : {Item : Type 0} → (Filled → List Item) → List ColType → List Row → Type 0

@@ -1,5 +1,5 @@
 -- What a node makes of its parts' entries.
-use Rattle.std.specs.Prelude.{List, [], ◌∷◌, ◌++◌, flat_map}
+use Rattle.std.specs.Prelude.{ℕ, ◌*◌, List, [], ◌∷◌, ◌++◌, flat_map, length}
 use Rattle.value_core.specs.declared.value.ColType.{ColType}
 use Rattle.table_core.specs.Rows.{types_of}
 use Rattle.table_core.specs.declared.task.TaskParts.{TaskParts}
@@ -33,6 +33,12 @@ abbrev pub site_filled : TaskParts → Site → List Filled
 site_filled task (site.Base table) = filled_base task table ∷ []
 site_filled task (site.Over op child) = flat_map (unary_filled task op child.now.types) child.now.entries
 site_filled task (site.Between op a b) = flat_map (binary_with task op a.now.types b.now.types b.now.entries) a.now.entries
+
+-- how many combinations of its parts' entries a node has: one where it has no part
+abbrev pub site_combos : Site → ℕ
+site_combos (site.Base table) = 1
+site_combos (site.Over op child) = length child.now.entries
+site_combos (site.Between op a b) = length a.now.entries * length b.now.entries
 
 -- the types of an operator's columns, by its parts'
 abbrev pub unary_types : Unary → List ColType → List ColType

@@ -47,10 +47,18 @@ has_parts (t.pair kind a b p) left right = is_some left && is_some right
 has_parts (t.group child keys agg) left right = is_some left
 has_parts (t.unite kind a b) left right = is_some left && is_some right
 
--- the weight of a row: for each filling one and the number of its rows
-abbrev pub weight : Fillings → ℕ
-weight row = sum_by (λ (e : Entry). length e.rows + 1) row.entries
+-- the weight of a filling: one and the number of its rows
+abbrev pub filled_weight : Filled → ℕ
+filled_weight f = length f.rows + 1
 
--- the weight of a skeleton: for each of its standard fillings one and the number of its rows
+-- the weight of some entries: for each one and the number of its rows
+abbrev pub entries_weight : List Entry → ℕ
+entries_weight entries = sum_by (λ (e : Entry). length e.rows + 1) entries
+
+-- the weight of a node's fillings
+abbrev pub weight : Fillings → ℕ
+weight row = entries_weight row.entries
+
+-- the weight of a skeleton: that of its standard fillings
 abbrev pub weight_of : TaskParts → Tree → ℕ
-weight_of task skeleton = sum_by (λ (f : Filled). length f.rows + 1) (standard_fillings task skeleton)
+weight_of task skeleton = sum_by filled_weight (standard_fillings task skeleton)

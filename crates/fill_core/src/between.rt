@@ -1,21 +1,25 @@
-ghost use Rattle.std.specs.Prelude.{◌≡◌, ◌++◌, All, flat_map, IfOk, OnOk};
+ghost use Rattle.std.specs.Prelude.{◌≡◌, ◌≤◌, ◌+◌, ◌*◌, ◌++◌, All, Err, flat_map, length, IfOk, OnOk};
 ghost use Rattle.query_core.specs.Filled.{filled_pairs};
 ghost use Rattle.query_core.specs.declared.kinds.Pairing.TheVariants as pairing;
-ghost use Rattle.fill_core.specs.Offers.{Gathered};
+ghost use Rattle.fill_core.specs.declared.end.FillEnd.TheVariants as ends;
+ghost use Rattle.fill_core.specs.Offers.{Gathered, TooMuch};
 ghost use Rattle.fill_core.specs.Sites.{binary_filled, binary_with, binary_types};
 ghost use Rattle.fill_core.specs.View.{entry_filled};
 
 use crate::bits::left_choices;
 use crate::choice::choices;
+use crate::end::FillEnd;
+use crate::fillings::Entry;
 use crate::offer::{Offer, Whole};
 use crate::receiver::Receiver;
-use crate::fillings::Entry;
 use crate::site::Binary;
+use crate::steps::Steps;
 use bag_eval::{cross_and_pad_rows, cross_rows, unite_rows};
 use predicate_core::Pred;
 use query_core::{Pairing, Uniting};
 use sqlite_items::Items;
 use std::alloc::Global;
+use std::sync::ledger::Ledger;
 use table_core::{Task, Tuple};
 use value_core::{ColType, OutOfMemory, concatenated};
 
@@ -72,11 +76,14 @@ impl Between<'_> {
         parts: &Parts<'_>,
         receiver: &R,
         store: &mut R::Store,
-    ) -> Result<(), OutOfMemory>
+    ) -> Result<(), FillEnd>
         requires same { self.now.types.now ≡ self.now.left.now ++ self.now.right.now }
         requires typed { R.typed receiver.now self.now.types.now }
         requires accepts { All (R.accepts receiver.now) (filled_pairs self.now.task.now pairing.Join (entry_filled self.now.left.now parts.now.left.now) (entry_filled self.now.right.now parts.now.right.now)) }
-        ensures { OnOk result (Gathered (R.held receiver.now) (R.gives receiver.now) store.old store.new (filled_pairs self.now.task.now pairing.Join (entry_filled self.now.left.now parts.now.left.now) (entry_filled self.now.right.now parts.now.right.now))) }
+        requires keeps { R.keeps receiver.now store.old }
+        ensures gathered { OnOk result (Gathered (R.held receiver.now) (R.gives receiver.now) store.old store.new (filled_pairs self.now.task.now pairing.Join (entry_filled self.now.left.now parts.now.left.now) (entry_filled self.now.right.now parts.now.right.now))) }
+        ensures keeps { OnOk result (R.keeps receiver.now store.new) }
+        ensures heavy { result ≡ Err ends.Heavy → TooMuch (R.bound receiver.now) (R.weighs receiver.now) (R.gives receiver.now) (R.held receiver.now store.old) (filled_pairs self.now.task.now pairing.Join (entry_filled self.now.left.now parts.now.left.now) (entry_filled self.now.right.now parts.now.right.now)) }
     {
         let (lefts, rights) = (parts.left.rows.as_slice(), parts.right.rows.as_slice());
         let pairs = cross_rows(alloc, lefts, rights)?;
@@ -102,11 +109,14 @@ impl Between<'_> {
         parts: &Parts<'_>,
         receiver: &R,
         store: &mut R::Store,
-    ) -> Result<(), OutOfMemory>
+    ) -> Result<(), FillEnd>
         requires same { self.now.types.now ≡ self.now.left.now ++ self.now.right.now }
         requires typed { R.typed receiver.now self.now.types.now }
         requires accepts { All (R.accepts receiver.now) (filled_pairs self.now.task.now pairing.Left (entry_filled self.now.left.now parts.now.left.now) (entry_filled self.now.right.now parts.now.right.now)) }
-        ensures { OnOk result (Gathered (R.held receiver.now) (R.gives receiver.now) store.old store.new (filled_pairs self.now.task.now pairing.Left (entry_filled self.now.left.now parts.now.left.now) (entry_filled self.now.right.now parts.now.right.now))) }
+        requires keeps { R.keeps receiver.now store.old }
+        ensures gathered { OnOk result (Gathered (R.held receiver.now) (R.gives receiver.now) store.old store.new (filled_pairs self.now.task.now pairing.Left (entry_filled self.now.left.now parts.now.left.now) (entry_filled self.now.right.now parts.now.right.now))) }
+        ensures keeps { OnOk result (R.keeps receiver.now store.new) }
+        ensures heavy { result ≡ Err ends.Heavy → TooMuch (R.bound receiver.now) (R.weighs receiver.now) (R.gives receiver.now) (R.held receiver.now store.old) (filled_pairs self.now.task.now pairing.Left (entry_filled self.now.left.now parts.now.left.now) (entry_filled self.now.right.now parts.now.right.now)) }
     {
         let (lefts, rights) = (parts.left.rows.as_slice(), parts.right.rows.as_slice());
         let candidates = cross_and_pad_rows(alloc, self.right.len(), lefts, rights)?;
@@ -133,11 +143,14 @@ impl Between<'_> {
         parts: &Parts<'_>,
         receiver: &R,
         store: &mut R::Store,
-    ) -> Result<(), OutOfMemory>
+    ) -> Result<(), FillEnd>
         requires same { self.now.types.now ≡ binary_types self.now.op self.now.left.now self.now.right.now }
         requires typed { R.typed receiver.now self.now.types.now }
         requires accepts { All (R.accepts receiver.now) (binary_filled self.now.task.now self.now.op self.now.left.now self.now.right.now parts.now.left.now parts.now.right.now) }
-        ensures { OnOk result (Gathered (R.held receiver.now) (R.gives receiver.now) store.old store.new (binary_filled self.now.task.now self.now.op self.now.left.now self.now.right.now parts.now.left.now parts.now.right.now)) }
+        requires keeps { R.keeps receiver.now store.old }
+        ensures gathered { OnOk result (Gathered (R.held receiver.now) (R.gives receiver.now) store.old store.new (binary_filled self.now.task.now self.now.op self.now.left.now self.now.right.now parts.now.left.now parts.now.right.now)) }
+        ensures keeps { OnOk result (R.keeps receiver.now store.new) }
+        ensures heavy { result ≡ Err ends.Heavy → TooMuch (R.bound receiver.now) (R.weighs receiver.now) (R.gives receiver.now) (R.held receiver.now store.old) (binary_filled self.now.task.now self.now.op self.now.left.now self.now.right.now parts.now.left.now parts.now.right.now) }
     {
         match self.op {
             Binary::Pair(Pairing::Join) => self.hand_joins(alloc, parts, receiver, store),
@@ -156,42 +169,55 @@ impl Between<'_> {
         }
     }
 
-    // Hands what the operator makes of a left entry with each of these right ones to a receiver.
-    fn walk_rights<R: Receiver>(
+    // Hands what the operator makes of a left entry with each of these right ones to a receiver. Each is a step.
+    fn walk_rights<L: Ledger, R: Receiver>(
         &self,
         alloc: Global,
         side: &Side<'_>,
         receiver: &R,
+        steps: &mut Steps<L>,
         store: &mut R::Store,
-    ) -> Result<(), OutOfMemory>
+    ) -> Result<(), FillEnd>
         requires same { self.now.types.now ≡ binary_types self.now.op self.now.left.now self.now.right.now }
         requires typed { R.typed receiver.now self.now.types.now }
         requires accepts { All (R.accepts receiver.now) (binary_with self.now.task.now self.now.op self.now.left.now self.now.right.now side.now.rights.now side.now.left.now) }
-        ensures { OnOk result (Gathered (R.held receiver.now) (R.gives receiver.now) store.old store.new (binary_with self.now.task.now self.now.op self.now.left.now self.now.right.now side.now.rights.now side.now.left.now)) }
+        requires keeps { R.keeps receiver.now store.old }
+        ensures gathered { OnOk result (Gathered (R.held receiver.now) (R.gives receiver.now) store.old store.new (binary_with self.now.task.now self.now.op self.now.left.now self.now.right.now side.now.rights.now side.now.left.now)) }
+        ensures keeps { OnOk result (R.keeps receiver.now store.new) }
+        ensures heavy { result ≡ Err ends.Heavy → TooMuch (R.bound receiver.now) (R.weighs receiver.now) (R.gives receiver.now) (R.held receiver.now store.old) (binary_with self.now.task.now self.now.op self.now.left.now self.now.right.now side.now.rights.now side.now.left.now) }
+        ensures ticks { OnOk result (steps.new ≡ steps.old + length side.now.rights.now) }
+        ensures few { steps.new ≤ steps.old + length side.now.rights.now }
     {
         for right in side.rights {
             let left = side.left;
+            steps.tick();
             self.hand(alloc, &Parts { left, right }, receiver, store)?;
         }
         Ok(())
     }
 
-    /// Hands what the operator makes of each left entry with each right one to a receiver.
-    pub fn walk<R: Receiver>(
+    /// Hands what the operator makes of each left entry with each right one to a receiver. Each combination is a step.
+    pub fn walk<L: Ledger, R: Receiver>(
         &self,
         alloc: Global,
         sides: &Sides<'_>,
         receiver: &R,
+        steps: &mut Steps<L>,
         store: &mut R::Store,
-    ) -> Result<(), OutOfMemory>
+    ) -> Result<(), FillEnd>
         requires same { self.now.types.now ≡ binary_types self.now.op self.now.left.now self.now.right.now }
         requires typed { R.typed receiver.now self.now.types.now }
         requires accepts { All (R.accepts receiver.now) (flat_map (binary_with self.now.task.now self.now.op self.now.left.now self.now.right.now sides.now.rights.now) sides.now.lefts.now) }
-        ensures { OnOk result (Gathered (R.held receiver.now) (R.gives receiver.now) store.old store.new (flat_map (binary_with self.now.task.now self.now.op self.now.left.now self.now.right.now sides.now.rights.now) sides.now.lefts.now)) }
+        requires keeps { R.keeps receiver.now store.old }
+        ensures gathered { OnOk result (Gathered (R.held receiver.now) (R.gives receiver.now) store.old store.new (flat_map (binary_with self.now.task.now self.now.op self.now.left.now self.now.right.now sides.now.rights.now) sides.now.lefts.now)) }
+        ensures keeps { OnOk result (R.keeps receiver.now store.new) }
+        ensures heavy { result ≡ Err ends.Heavy → TooMuch (R.bound receiver.now) (R.weighs receiver.now) (R.gives receiver.now) (R.held receiver.now store.old) (flat_map (binary_with self.now.task.now self.now.op self.now.left.now self.now.right.now sides.now.rights.now) sides.now.lefts.now) }
+        ensures ticks { OnOk result (steps.new ≡ steps.old + length sides.now.lefts.now * length sides.now.rights.now) }
+        ensures few { steps.new ≤ steps.old + length sides.now.lefts.now * length sides.now.rights.now }
     {
         for left in sides.lefts {
             let rights = sides.rights;
-            self.walk_rights(alloc, &Side { left, rights }, receiver, store)?;
+            self.walk_rights(alloc, &Side { left, rights }, receiver, steps, store)?;
         }
         Ok(())
     }

@@ -21,7 +21,7 @@ mod steps;
 
 pub use choice::Choice;
 pub use end::FillEnd;
-pub use fill_over::{Below, fill_over, site_of};
+pub use fill_over::{Below, Filler, fill_all, site_of};
 pub use fillings::{Entry, Fillings};
 pub use job::Job;
 pub use offer::Offer;

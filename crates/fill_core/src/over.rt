@@ -1,19 +1,23 @@
-ghost use Rattle.std.specs.Prelude.{◌≡◌, All, flat_map, OnOk};
+ghost use Rattle.std.specs.Prelude.{◌≡◌, ◌≤◌, ◌+◌, All, Err, flat_map, length, OnOk};
 ghost use Rattle.query_core.specs.Filled.{filled_filters, filled_groups};
-ghost use Rattle.fill_core.specs.Offers.{Gathered};
+ghost use Rattle.fill_core.specs.declared.end.FillEnd.TheVariants as ends;
+ghost use Rattle.fill_core.specs.Offers.{Gathered, TooMuch};
 ghost use Rattle.fill_core.specs.Sites.{unary_filled, unary_types};
 ghost use Rattle.fill_core.specs.View.{entry_filled};
 
 use crate::choice::filter_choices;
+use crate::end::FillEnd;
+use crate::fillings::Entry;
 use crate::offer::{Offer, Whole};
 use crate::receiver::Receiver;
-use crate::fillings::Entry;
 use crate::site::Unary;
+use crate::steps::Steps;
 use bag_eval::group_tuples;
 use query_core::Agg;
 use std::alloc::Global;
+use std::sync::ledger::Ledger;
 use table_core::Task;
-use value_core::{ColType, OutOfMemory};
+use value_core::ColType;
 
 /// An operator over one part, with the types of its columns and of its part's.
 #[derive(Drop)]
@@ -32,10 +36,13 @@ fn hand_filters<R: Receiver>(
     child: &Entry,
     receiver: &R,
     store: &mut R::Store,
-) -> Result<(), OutOfMemory>
+) -> Result<(), FillEnd>
     requires typed { R.typed receiver.now over.now.child.now }
     requires accepts { All (R.accepts receiver.now) (filled_filters over.now.task.now (entry_filled over.now.child.now child.now)) }
-    ensures { OnOk result (Gathered (R.held receiver.now) (R.gives receiver.now) store.old store.new (filled_filters over.now.task.now (entry_filled over.now.child.now child.now))) }
+    requires keeps { R.keeps receiver.now store.old }
+    ensures gathered { OnOk result (Gathered (R.held receiver.now) (R.gives receiver.now) store.old store.new (filled_filters over.now.task.now (entry_filled over.now.child.now child.now))) }
+    ensures keeps { OnOk result (R.keeps receiver.now store.new) }
+    ensures heavy { result ≡ Err ends.Heavy → TooMuch (R.bound receiver.now) (R.weighs receiver.now) (R.gives receiver.now) (R.held receiver.now store.old) (filled_filters over.now.task.now (entry_filled over.now.child.now child.now)) }
 {
     let rows = child.rows.as_slice();
     let Some(findings) = receiver.look(alloc, over.child, rows)? else {
@@ -59,11 +66,14 @@ impl Over<'_> {
         child: &Entry,
         receiver: &R,
         store: &mut R::Store,
-    ) -> Result<(), OutOfMemory>
+    ) -> Result<(), FillEnd>
         requires same { self.now.types.now ≡ unary_types self.now.op.now self.now.child.now }
         requires typed { R.typed receiver.now self.now.types.now }
         requires accepts { All (R.accepts receiver.now) (unary_filled self.now.task.now self.now.op.now self.now.child.now child.now) }
-        ensures { OnOk result (Gathered (R.held receiver.now) (R.gives receiver.now) store.old store.new (unary_filled self.now.task.now self.now.op.now self.now.child.now child.now)) }
+        requires keeps { R.keeps receiver.now store.old }
+        ensures gathered { OnOk result (Gathered (R.held receiver.now) (R.gives receiver.now) store.old store.new (unary_filled self.now.task.now self.now.op.now self.now.child.now child.now)) }
+        ensures keeps { OnOk result (R.keeps receiver.now store.new) }
+        ensures heavy { result ≡ Err ends.Heavy → TooMuch (R.bound receiver.now) (R.weighs receiver.now) (R.gives receiver.now) (R.held receiver.now store.old) (unary_filled self.now.task.now self.now.op.now self.now.child.now child.now) }
     {
         match self.op {
             Unary::Filter => hand_filters(alloc, self, child, receiver, store),
@@ -82,20 +92,27 @@ impl Over<'_> {
         }
     }
 
-    /// Hands what the operator makes of each of these entries to a receiver.
-    pub fn walk<R: Receiver>(
+    /// Hands what the operator makes of each of these entries to a receiver. Each is a step.
+    pub fn walk<L: Ledger, R: Receiver>(
         &self,
         alloc: Global,
         children: &[Entry],
         receiver: &R,
+        steps: &mut Steps<L>,
         store: &mut R::Store,
-    ) -> Result<(), OutOfMemory>
+    ) -> Result<(), FillEnd>
         requires same { self.now.types.now ≡ unary_types self.now.op.now self.now.child.now }
         requires typed { R.typed receiver.now self.now.types.now }
         requires accepts { All (R.accepts receiver.now) (flat_map (unary_filled self.now.task.now self.now.op.now self.now.child.now) children.now) }
-        ensures { OnOk result (Gathered (R.held receiver.now) (R.gives receiver.now) store.old store.new (flat_map (unary_filled self.now.task.now self.now.op.now self.now.child.now) children.now)) }
+        requires keeps { R.keeps receiver.now store.old }
+        ensures gathered { OnOk result (Gathered (R.held receiver.now) (R.gives receiver.now) store.old store.new (flat_map (unary_filled self.now.task.now self.now.op.now self.now.child.now) children.now)) }
+        ensures keeps { OnOk result (R.keeps receiver.now store.new) }
+        ensures heavy { result ≡ Err ends.Heavy → TooMuch (R.bound receiver.now) (R.weighs receiver.now) (R.gives receiver.now) (R.held receiver.now store.old) (flat_map (unary_filled self.now.task.now self.now.op.now self.now.child.now) children.now) }
+        ensures ticks { OnOk result (steps.new ≡ steps.old + length children.now) }
+        ensures few { steps.new ≤ steps.old + length children.now }
     {
         for child in children {
+            steps.tick();
             self.hand(alloc, child, receiver, store)?;
         }
         Ok(())

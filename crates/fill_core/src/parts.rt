@@ -2,7 +2,7 @@ ghost use Rattle.std.specs.Prelude.{◌≡◌, Some, None, option_copied, IfOk};
 ghost use Rattle.query_core.specs.View.{tree};
 ghost use Rattle.fill_core.specs.View.{AreFillingsOf, ArePartsOf};
 
-use crate::fill_over::{Below, fill_over};
+use crate::fill_over::{Below, fill_all};
 use crate::fillings::Fillings;
 use query_core::Node;
 use std::alloc::Global;
@@ -86,5 +86,5 @@ pub fn fill(alloc: Global, task: &Task, skeleton: &Node) -> Result<Fillings, Out
     ensures { IfOk result (λ row. AreFillingsOf task.now (tree skeleton.now) row) }
 {
     let parts = parts_of(alloc, task, skeleton)?;
-    fill_over(alloc, task, skeleton, &parts.below())
+    fill_all(alloc, task, skeleton, &parts.below())
 }

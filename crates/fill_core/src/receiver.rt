@@ -1,9 +1,11 @@
-ghost use Rattle.std.specs.Prelude.{◌≡◌, List, All, length, Ok, None, IfOk, IfSome, OnOk};
+ghost use Rattle.std.specs.Prelude.{◌≡◌, ℕ, List, Option, All, length, Ok, Err, None, IfOk, IfSome, OnOk};
 ghost use Rattle.value_core.specs.declared.value.ColType as values;
 ghost use Rattle.table_core.specs.Rows.{Row};
 ghost use Rattle.query_core.specs.Filled.{Filled};
-ghost use Rattle.fill_core.specs.Offers.{filled_by_all, Gathered, GivesNothing};
+ghost use Rattle.fill_core.specs.declared.end.FillEnd.TheVariants as ends;
+ghost use Rattle.fill_core.specs.Offers.{filled_by_all, Gathered, GivesNothing, TooMuch};
 
+use crate::end::FillEnd;
 use crate::offer::Offer;
 use std::alloc::Global;
 use table_core::Tuple;
@@ -23,6 +25,13 @@ pub trait Receiver {
     ghost held: { Self → Self.Store → List Item };
 
     ghost gives: { Self → Filled → List Item };
+
+    // How much each item weighs, and how much all may weigh, where there is a bound; and a store that tells the bound is kept.
+    ghost weighs: { Self → Item → ℕ };
+
+    ghost bound: { Self → Option ℕ };
+
+    ghost keeps: { Self → Self.Store → Type 0 };
 
     // The types of columns, and the fillings, that it may be handed.
     ghost typed: { Self → List values.ColType → Type 0 };
@@ -50,10 +59,13 @@ pub trait Receiver {
         offer: &Offer<'_>,
         findings: &Self::Findings,
         store: &mut Self::Store,
-    ) -> Result<(), OutOfMemory>
+    ) -> Result<(), FillEnd>
         requires wide { All (λ c. length c.bits ≡ length offer.now.candidates.now) offer.now.choices.now }
         requires typed { typed self.now offer.now.types.now }
         requires accepts { All (accepts self.now) (filled_by_all offer.now.types.now offer.now.preds.now offer.now.candidates.now offer.now.choices.now) }
         requires found { found self.now offer.now.types.now offer.now.candidates.now findings.now }
-        ensures { OnOk result (Gathered (held self.now) (gives self.now) store.old store.new (filled_by_all offer.now.types.now offer.now.preds.now offer.now.candidates.now offer.now.choices.now)) };
+        requires keeps { keeps self.now store.old }
+        ensures gathered { OnOk result (Gathered (held self.now) (gives self.now) store.old store.new (filled_by_all offer.now.types.now offer.now.preds.now offer.now.candidates.now offer.now.choices.now)) }
+        ensures keeps { OnOk result (keeps self.now store.new) }
+        ensures heavy { result ≡ Err ends.Heavy → TooMuch (bound self.now) (weighs self.now) (gives self.now) (held self.now store.old) (filled_by_all offer.now.types.now offer.now.preds.now offer.now.candidates.now offer.now.choices.now) };
 }

@@ -1,5 +1,5 @@
 -- The answers of a skeleton, read off its standard fillings.
-use Rattle.std.specs.Prelude.{◌≡◌, ℕ, Bool, true, false, All, List, [], ◌∷◌, ◌++◌, flat_map, None, if◌then◌else◌}
+use Rattle.std.specs.Prelude.{◌≡◌, ℕ, Bool, true, false, All, List, [], ◌∷◌, ◌++◌, flat_map, length, Option, None, if◌then◌else◌}
 use Rattle.predicate_core.specs.declared.pred.Pred.{Pred}
 use Rattle.predicate_core.specs.declared.pred.Pred.TheVariants.{Always}
 use Rattle.table_core.specs.Rows.{types_of}
@@ -10,6 +10,7 @@ use Rattle.query_core.specs.Grammar.{maps}
 use Rattle.query_core.specs.Membership.{query_fault}
 use Rattle.query_core.specs.Answers.{RankedQuery, ranked}
 use Rattle.query_core.specs.Filled.{Filled, standard_fillings}
+use Rattle.fill_core.specs.Bounds.{Passes}
 use Rattle.root_search.specs.Targets.{rows_give}
 
 -- a tree whose holes were given the first of some predicates, and the predicates that are left
@@ -61,6 +62,10 @@ answers_on task n skeleton f = flat_map (answers_by task n skeleton f) (maps f.t
 -- the answers of a skeleton with its number
 abbrev pub root_answers : TaskParts → ℕ × Tree → List RankedQuery
 root_answers task s = flat_map (answers_on task s.0 s.1) (standard_fillings task s.1)
+
+-- some answers and more are together more than a bound, where there is one
+abbrev pub TooMany : Option ℕ → List RankedQuery → List RankedQuery → Type 0
+TooMany bound found more = Passes bound (length (found ++ more))
 
 -- the queries of a skeleton with these predicates, and a map of these, are of the grammar
 abbrev pub AreOfGrammar : TaskParts → Tree → List Pred → List (List ℕ) → Type 0

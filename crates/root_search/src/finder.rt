@@ -1,6 +1,6 @@
 use crate::refill::refilled;
 use crate::target::bits_give;
-use fill_core::{Choice, Offer, Receiver};
+use fill_core::{Choice, FillEnd, Offer, Receiver};
 use map_walk::{Reading, is_open, readings};
 use predicate_core::Pred;
 use query_core::{Node, Query};
@@ -10,12 +10,13 @@ use std::alloc::Global;
 use table_core::{Task, Tuple};
 use value_core::{ColType, OutOfMemory, concatenated, copied};
 
-/// The skeleton of a number as a root: what finds the answers among its fillings.
+/// The skeleton of a number as a root: what finds the answers among its fillings, at most so many, where there is a bound.
 #[derive(Drop)]
 pub struct Root<'a> {
     pub task: &'a Task,
     pub number: u32,
     pub skeleton: &'a Node,
+    pub bound: Option<u64>,
 }
 
 // A choice of an offer, with one reading and with several.
@@ -34,12 +35,14 @@ struct Reads<'a> {
 }
 
 impl Root<'_> {
-    ghost use Rattle.std.specs.Prelude.{◌≡◌, ◌++◌, ℕ, Bool, None, All, IfOk, OnOk, length};
+    ghost use Rattle.std.specs.Prelude.{◌≡◌, ◌+◌, ◌++◌, ◌∷◌, [], ℕ, Bool, None, All, Err, IfOk, OnOk, length};
+    ghost use Rattle.fill_core.specs.Bounds.{IsWithin, Passes};
+    ghost use Rattle.fill_core.specs.declared.end.FillEnd.TheVariants as ends;
+    ghost use Rattle.root_search.specs.Answers.{query_of, TooMany};
     ghost use Rattle.query_core.specs.Answers.{ranked};
     ghost use Rattle.query_core.specs.Membership.{query_fault};
     ghost use Rattle.query_core.specs.View.{tree, select};
     ghost use Rattle.rank_core.specs.View.{ranked_query, ranked_queries};
-    ghost use Rattle.root_search.specs.Answers.{query_of};
     ghost use Rattle.root_search.specs.Reads.{preds_of, read_answer, read_answers, choice_answers};
 
     // The query of these predicates, this map and flag.
@@ -75,6 +78,22 @@ impl Root<'_> {
         Ok(Ranked { key, query })
     }
 
+    // Appends an answer, where the bound has room for it.
+    fn push(&self, answer: Ranked, out: &mut Vec<Ranked>) -> Result<(), FillEnd>
+        requires room { IsWithin self.now.bound (length out.old.items) }
+        ensures found { OnOk result (out.new.items ≡ out.old.items ++ answer ∷ []) }
+        ensures room { OnOk result (IsWithin self.now.bound (length out.new.items)) }
+        ensures heavy { result ≡ Err ends.Heavy → Passes self.now.bound (length out.old.items + 1) }
+    {
+        if let Some(bound) = self.bound {
+            if bound <= out.len() as u64 {
+                return Err(FillEnd::Heavy);
+            }
+        }
+        out.push(answer)?;
+        Ok(())
+    }
+
     // Appends the query of a choice by a reading, where the choice's bits give the output.
     fn push_answer(
         &self,
@@ -82,10 +101,13 @@ impl Root<'_> {
         read: &Read<'_>,
         distinct: bool,
         out: &mut Vec<Ranked>,
-    ) -> Result<(), OutOfMemory>
+    ) -> Result<(), FillEnd>
         requires wide { All (λ t. length read.now.choice.now.bits ≡ length t.mask) read.now.reading.now.targets }
         requires fits { query_fault self.now.task.now (query_of (tree self.now.skeleton.now) (preds_of read.now.offer.now.preds.now read.now.choice.now) read.now.reading.now.picks distinct) ≡ None }
-        ensures { OnOk result (ranked_queries out.new ≡ ranked_queries out.old ++ read_answer self.now.task.now self.now.number (tree self.now.skeleton.now) read.now.offer.now.preds.now read.now.choice.now read.now.reading.now distinct) }
+        requires room { IsWithin self.now.bound (length out.old.items) }
+        ensures found { OnOk result (ranked_queries out.new ≡ ranked_queries out.old ++ read_answer self.now.task.now self.now.number (tree self.now.skeleton.now) read.now.offer.now.preds.now read.now.choice.now read.now.reading.now distinct) }
+        ensures room { OnOk result (IsWithin self.now.bound (length out.new.items)) }
+        ensures heavy { result ≡ Err ends.Heavy → TooMany self.now.bound (ranked_queries out.old) (read_answer self.now.task.now self.now.number (tree self.now.skeleton.now) read.now.offer.now.preds.now read.now.choice.now read.now.reading.now distinct) }
     {
         let wanted = self.task.output().tuples().len();
         let targets = read.reading.targets.as_slice();
@@ -94,8 +116,7 @@ impl Root<'_> {
         }
         let preds = read.offer.preds_with(alloc, &read.choice.pred)?;
         let picks = read.reading.picks.as_slice();
-        out.push(self.ranked(alloc, preds.as_slice(), picks, distinct)?)?;
-        Ok(())
+        self.push(self.ranked(alloc, preds.as_slice(), picks, distinct)?, out)
     }
 
     // Appends the queries of a choice by a reading, with and without removal of duplicates.
@@ -104,10 +125,13 @@ impl Root<'_> {
         alloc: Global,
         read: &Read<'_>,
         out: &mut Vec<Ranked>,
-    ) -> Result<(), OutOfMemory>
+    ) -> Result<(), FillEnd>
         requires wide { All (λ t. length read.now.choice.now.bits ≡ length t.mask) read.now.reading.now.targets }
         requires fits { (distinct : Bool) → query_fault self.now.task.now (query_of (tree self.now.skeleton.now) (preds_of read.now.offer.now.preds.now read.now.choice.now) read.now.reading.now.picks distinct) ≡ None }
-        ensures { OnOk result (ranked_queries out.new ≡ ranked_queries out.old ++ read_answers self.now.task.now self.now.number (tree self.now.skeleton.now) read.now.offer.now.preds.now read.now.choice.now read.now.reading.now) }
+        requires room { IsWithin self.now.bound (length out.old.items) }
+        ensures found { OnOk result (ranked_queries out.new ≡ ranked_queries out.old ++ read_answers self.now.task.now self.now.number (tree self.now.skeleton.now) read.now.offer.now.preds.now read.now.choice.now read.now.reading.now) }
+        ensures room { OnOk result (IsWithin self.now.bound (length out.new.items)) }
+        ensures heavy { result ≡ Err ends.Heavy → TooMany self.now.bound (ranked_queries out.old) (read_answers self.now.task.now self.now.number (tree self.now.skeleton.now) read.now.offer.now.preds.now read.now.choice.now read.now.reading.now) }
     {
         self.push_answer(alloc, read, false, out)?;
         self.push_answer(alloc, read, true, out)
@@ -119,10 +143,13 @@ impl Root<'_> {
         alloc: Global,
         reads: &Reads<'_>,
         out: &mut Vec<Ranked>,
-    ) -> Result<(), OutOfMemory>
+    ) -> Result<(), FillEnd>
         requires wide { All (λ r. All (λ t. length reads.now.choice.now.bits ≡ length t.mask) r.targets) reads.now.readings.now }
         requires fits { All (λ r. (distinct : Bool) → query_fault self.now.task.now (query_of (tree self.now.skeleton.now) (preds_of reads.now.offer.now.preds.now reads.now.choice.now) r.picks distinct) ≡ None) reads.now.readings.now }
-        ensures { OnOk result (ranked_queries out.new ≡ ranked_queries out.old ++ choice_answers self.now.task.now self.now.number (tree self.now.skeleton.now) reads.now.offer.now.preds.now reads.now.readings.now reads.now.choice.now) }
+        requires room { IsWithin self.now.bound (length out.old.items) }
+        ensures found { OnOk result (ranked_queries out.new ≡ ranked_queries out.old ++ choice_answers self.now.task.now self.now.number (tree self.now.skeleton.now) reads.now.offer.now.preds.now reads.now.readings.now reads.now.choice.now) }
+        ensures room { OnOk result (IsWithin self.now.bound (length out.new.items)) }
+        ensures heavy { result ≡ Err ends.Heavy → TooMany self.now.bound (ranked_queries out.old) (choice_answers self.now.task.now self.now.number (tree self.now.skeleton.now) reads.now.offer.now.preds.now reads.now.readings.now reads.now.choice.now) }
     {
         for reading in reads.readings {
             let (offer, choice) = (reads.offer, reads.choice);
@@ -143,7 +170,8 @@ impl Receiver for Root<'_> {
     ghost use Rattle.rank_core.specs.View.{ranked_queries};
     ghost use Rattle.root_search.specs.Answers.{answers_on, FillingFits};
     ghost use Rattle.root_search.specs.Readings.{readings};
-    ghost use Rattle.std.specs.Prelude.{◌≡◌};
+    ghost use Rattle.fill_core.specs.Bounds.{IsWithin};
+    ghost use Rattle.std.specs.Prelude.{◌≡◌, length};
 
     type Store = Vec<Ranked>;
 
@@ -152,6 +180,12 @@ impl Receiver for Root<'_> {
     ghost Item = { RankedQuery };
 
     ghost held = { λ f store. ranked_queries store };
+
+    ghost weighs = { λ f r. 1 };
+
+    ghost bound = { λ f. f.bound };
+
+    ghost keeps = { λ f store. IsWithin f.bound (length store.items) };
 
     ghost gives = { λ f filled. answers_on f.task.now f.number (tree f.skeleton.now) filled };
 
@@ -183,7 +217,7 @@ impl Receiver for Root<'_> {
         offer: &Offer<'_>,
         findings: &Items<Reading>,
         store: &mut Vec<Ranked>,
-    ) -> Result<(), OutOfMemory> {
+    ) -> Result<(), FillEnd> {
         let readings = findings.as_slice();
         for choice in offer.choices {
             let reads = Reads {

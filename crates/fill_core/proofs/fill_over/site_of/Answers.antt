@@ -1,4 +1,4 @@
-use Rattle.std.proofs.Common.{ap, sym, ◌∙◌, ◌≡◌, option_copied}
+use Rattle.std.proofs.Common.{ap, sym, ◌∙◌, option_copied}
 use Rattle.query_core.specs.Tree as t
 use Rattle.query_core.specs.View.{tree}
 use Rattle.query_core.proofs.TreeLaws.{tree_filter, tree_join, tree_left, tree_group, tree_union_all, tree_union}

@@ -1,4 +1,4 @@
-use Rattle.std.proofs.Common.{◌≡◌, sym, subst, ◌<◌, length}
+use Rattle.std.proofs.Common.{sym, subst, ◌<◌, length}
 use Rattle.std.specs.Prelude.{All}
 use Rattle.fill_core.specs.Plans.{PlanData, ChildrenAreInner, PartsComeFirst, node_of}
 use Rattle.fill_core.proofs.PlanLaws.{children_inner}
