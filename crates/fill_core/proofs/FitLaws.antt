@@ -1,9 +1,9 @@
 -- A row that fits a node of a plan has the node's fillings, which depend on nothing of a task but what is compared.
-use Rattle.std.proofs.Common.{◌≡◌, ℕ, ◌<◌, Bool, true, false, ◌==◌, ◌&&◌, nat_lt, List, [], ◌∷◌, ◌++◌, map, length, is_some, Option, Some, None, refl, sym, ap, ap₂, ◌∙◌, subst, Decides, inl, inr}
+use Rattle.std.proofs.Common.{◌≡◌, ℕ, ◌<◌, Bool, true, false, ◌==◌, ◌&&◌, nat_eq, nat_lt, List, [], ◌∷◌, ◌++◌, map, length, is_some, Option, Some, None, refl, sym, ap, ap₂, ◌∙◌, subst, Decides, inl, inr}
 use Rattle.std.specs.Prelude.{slice_get, unwrap_or, option_and_then}
 use Rattle.std.specs.List.{flat_map, list_all}
 use Rattle.std.specs.Cmp.Lexicographic.{pointwise}
-use Rattle.std.proofs.lemmas.Bool.{and_parts, false≢true, eqb-true}
+use Rattle.std.proofs.lemmas.Bool.{and_parts, false≢true, eqb-true, eq-eqb, lt-ltb}
 use Rattle.std.proofs.lemmas.List.Folds.{list_all-append}
 use Rattle.std.proofs.lemmas.Slice.Eq.{slice_eq-Decides}
 use Rattle.value_core.specs.Value.{same_type}
@@ -21,7 +21,9 @@ use Rattle.query_core.specs.Grammar.{leaves}
 use Rattle.query_core.specs.Meaning.{columns, group_types, input_at}
 use Rattle.query_core.specs.Tree.{Tree}
 use Rattle.query_core.specs.Tree as t
+use Rattle.query_core.specs.View.{tree}
 use Rattle.query_core.specs.declared.kinds.Pairing.{Pairing}
+use Rattle.query_core.specs.declared.node.Node.{Node}
 use Rattle.query_core.proofs.MapLaws.{flat_map_same}
 use Rattle.query_laws.specs.Filled.{unions_on, of_each_filled}
 use Rattle.query_laws.proofs.FilledLaws.{base_filled, filter_filled, pair_filled, group_filled, union_filled}
@@ -129,17 +131,79 @@ fillings_same this that constants atoms (t.unite kind a b) e =
     ∙ sym (union_filled that kind a b)
 
 -- a row that fits a node of a plan has the node's fillings
-pub row_fits : (row : RowData) (plan : PlanData) (node : ℕ) → AreFillingsOf row.source row.skeleton row.fillings → fits row plan node ≡ true → AreFillingsOf plan.task (tree_at (trees_of plan.graph.nodes) node) row.fillings
+pub row_fits : (row : RowData) (plan : PlanData) (node : ℕ) → AreFillingsOf row.source (tree row.skeleton) row.fillings → fits row plan node ≡ true → AreFillingsOf plan.task (tree_at (trees_of plan.graph.nodes) node) row.fillings
 row_fits row plan node made e =
     let this = row.source in
     let that = plan.task in
-    let both = and_parts (row.node == node && has_skeleton plan node row.skeleton) (same_source this that row.skeleton) e in
-    let place = and_parts (row.node == node) (has_skeleton plan node row.skeleton) both.0 in
-    let tree = tree_at (trees_of plan.graph.nodes) node in
-    let skeleton : row.skeleton ≡ tree = (same_tree_decides row.skeleton tree).0 (and_parts (nat_lt node (length plan.graph.nodes)) (same_tree row.skeleton tree) place.1).1 in
-    let source = and_parts (same_inputs this.inputs that.inputs row.skeleton) (same_cells this.constants that.constants && this.atoms == that.atoms) both.1 in
+    let own = tree row.skeleton in
+    let whole = tree_at (trees_of plan.graph.nodes) node in
+    let both = and_parts (row.node == node && has_skeleton plan node own) (same_source this that own) e in
+    let place = and_parts (row.node == node) (has_skeleton plan node own) both.0 in
+    let skeleton : own ≡ whole = (same_tree_decides own whole).0 (and_parts (nat_lt node (length plan.graph.nodes)) (same_tree own whole) place.1).1 in
+    let source = and_parts (same_inputs this.inputs that.inputs own) (same_cells this.constants that.constants && this.atoms == that.atoms) both.1 in
     let choices = and_parts (same_cells this.constants that.constants) (this.atoms == that.atoms) source.1 in
     let constants : this.constants ≡ that.constants = (cells_decide this.constants that.constants).0 choices.0 in
     let atoms : this.atoms ≡ that.atoms = eqb-true this.atoms that.atoms choices.1 in
-    subst (λ s. AreFillingsOf that s row.fillings) skeleton
-    (made.0 ∙ fillings_same this that constants atoms row.skeleton source.0, made.1 ∙ columns_same this.inputs that.inputs row.skeleton source.0)
+    subst (λ s. AreFillingsOf that s row.fillings) skeleton (made.0 ∙ fillings_same this that constants atoms own source.0, made.1 ∙ columns_same this.inputs that.inputs own source.0)
+
+-- what is made of a task for a node of its plan fits the node
+all_same : {X : Type 0} (E : X → X → Bool) → ((x : X) → E x x ≡ true) → (xs : List X) → pointwise E xs xs ≡ true
+all_same E same [] = refl
+all_same E same (x ∷ xs) = ap₂ (λ a b. a && b) (same x) (all_same E same xs)
+
+column_itself : (c : Column) → same_column c c ≡ true
+column_itself c = ap₂ (λ a b. a && b) (all_same nat_eq (λ n. eq-eqb n n refl) c.name) (type_itself c.kind)
+  where
+    type_itself : (k : ColType) → same_type k k ≡ true
+    type_itself kind.Int = refl
+    type_itself kind.Text = refl
+
+cells_itself : (a : Tuple) → same_cells a a ≡ true
+cells_itself a = (cells_decide a a).1 refl
+
+input_itself : (o : Option TableData) → same_input o o ≡ true
+input_itself None = refl
+input_itself (Some u) = ap₂ (λ a b. a && b) (all_same same_column column_itself u.columns) (all_same same_cells cells_itself u.rows)
+
+inputs_itself : (these : List TableData) (tables : List ℕ) → list_all (λ table. same_input (slice_get these table) (slice_get these table)) tables ≡ true
+inputs_itself these [] = refl
+inputs_itself these (table ∷ tables) = ap₂ (λ a b. a && b) (input_itself (slice_get these table)) (inputs_itself these tables)
+
+pub made_fits : (plan : PlanData) (node : ℕ) (skeleton : Node) (source : TaskParts) (fillings : Fillings) → node < length plan.graph.nodes → tree skeleton ≡ tree_at (trees_of plan.graph.nodes) node → source ≡ plan.task
+    → fits (record { node = node; skeleton = skeleton; source = source; fillings = fillings }) plan node ≡ true
+made_fits plan node skeleton source fillings below is same =
+    let whole = tree_at (trees_of plan.graph.nodes) node in
+    let place = ap₂ (λ a b. a && b) (eq-eqb node node refl) (ap₂ (λ a b. a && b) (lt-ltb node (length plan.graph.nodes) below) ((same_tree_decides (tree skeleton) whole).1 is)) in
+    let choices = ap₂ (λ a b. a && b) (cells_itself plan.task.constants) (eq-eqb plan.task.atoms plan.task.atoms refl) in
+    let task = ap₂ (λ a b. a && b) (inputs_itself plan.task.inputs (leaves (tree skeleton))) choices in
+    ap₂ (λ a b. a && b) place (ap (λ s. same_source s plan.task (tree skeleton)) same ∙ task)
+
+-- a child that a node has is its part, where the row that is there fits the child
+child_part : (task : TaskParts) (trees : List Tree) (child : Option ℕ) (fillings : Option Fillings) → ((k : ℕ) → child ≡ Some k → IsPartOf task (tree_at trees k) fillings) → is_some child ≡ true → IsPartOf task (child_tree trees child) fillings
+child_part task trees None fillings each there = absurd (false≢true there)
+child_part task trees (Some k) fillings each there = each k refl
+
+parts_of : (task : TaskParts) (k : Kind) (a b : Tree) (left right : Option Fillings) (l r : Option ℕ) → HasItsChildren k l r → (is_some l ≡ true → IsPartOf task a left) → (is_some r ≡ true → IsPartOf task b right)
+    → ArePartsOf task (kind_tree k a b) left right
+parts_of task (kinds.Base table) a b left right l r has first second = tt
+parts_of task kinds.Filter a b left right l r has first second = first has.0
+parts_of task kinds.Join a b left right l r has first second = (first has.0, second has.1)
+parts_of task kinds.Left a b left right l r has first second = (first has.0, second has.1)
+parts_of task (kinds.Group keys agg) a b left right l r has first second = first has.0
+parts_of task kinds.UnionAll a b left right l r has first second = (first has.0, second has.1)
+parts_of task kinds.Union a b left right l r has first second = (first has.0, second has.1)
+
+-- the fillings of rows that fit the children of a node are those of its parts
+pub parts_fit : (plan : PlanData) (k : ℕ) (node : SkelNode) (lefts rights : Option RowData) (left right : Option Fillings) → IsGraph plan.graph.nodes plan.graph.types → slice_get plan.graph.nodes k ≡ Some node
+    → FitBelow plan k lefts rights
+    → ((child : ℕ) → FitsChild plan (Some child) lefts → IsPartOf plan.task (tree_at (trees_of plan.graph.nodes) child) left)
+    → ((child : ℕ) → FitsChild plan (Some child) rights → IsPartOf plan.task (tree_at (trees_of plan.graph.nodes) child) right)
+    → ArePartsOf plan.task (tree_at (trees_of plan.graph.nodes) k) left right
+parts_fit plan k node lefts rights left right graph is fit first second =
+    let trees = trees_of plan.graph.nodes in
+    let on_left : FitsChild plan node.left lefts = subst (λ c. FitsChild plan c lefts) (ap (option_and_then (λ (n : SkelNode). n.left)) is) fit.0 in
+    let on_right : FitsChild plan node.right rights = subst (λ c. FitsChild plan c rights) (ap (option_and_then (λ (n : SkelNode). n.right)) is) fit.1 in
+    subst (λ s. ArePartsOf plan.task s left right) (sym (tree_made plan.graph.nodes k node graph.lefts graph.rights is))
+    (parts_of plan.task node.kind (child_tree trees node.left) (child_tree trees node.right) left right node.left node.right (graph.shaped k node is)
+    (child_part plan.task trees node.left left (λ c e. first c (subst (λ o. FitsChild plan o lefts) e on_left)))
+    (child_part plan.task trees node.right right (λ c e. second c (subst (λ o. FitsChild plan o rights) e on_right))))

@@ -10,6 +10,8 @@ use Rattle.table_core.specs.declared.column.Column.{Column}
 use Rattle.table_core.specs.declared.task.TaskParts.{TaskParts}
 use Rattle.query_core.specs.Grammar.{leaves}
 use Rattle.query_core.specs.Tree.{Tree}
+use Rattle.query_core.specs.View.{tree}
+use Rattle.query_core.specs.declared.node.Node.{Node}
 use Rattle.skeleton_graph.specs.Below.{same_tree}
 use Rattle.skeleton_graph.specs.Nodes.{left_of, right_of, tree_at, trees_of}
 use Rattle.fill_core.specs.Plans.{PlanData}
@@ -18,7 +20,7 @@ use Rattle.fill_core.specs.declared.fillings.Fillings.{Fillings}
 -- what a row shows: the number of its node, the skeleton and the parts of the task that it was made of, and its fillings
 pub record RowData : Type 0 where
   pub node : ℕ
-  pub skeleton : Tree
+  pub skeleton : Node
   pub source : TaskParts
   pub fillings : Fillings
 
@@ -50,7 +52,7 @@ has_skeleton plan node skeleton = nat_lt node (length plan.graph.nodes) && same_
 
 -- whether a row is the one of a node of a plan: its node has that number and that skeleton, and for the skeleton its task is the same
 abbrev pub fits : RowData → PlanData → ℕ → Bool
-fits row plan node = (row.node == node && has_skeleton plan node row.skeleton) && same_source row.source plan.task row.skeleton
+fits row plan node = (row.node == node && has_skeleton plan node (tree row.skeleton)) && same_source row.source plan.task (tree row.skeleton)
 
 -- a row that may not be there is there where there is a child, and fits it
 abbrev pub FitsChild : PlanData → Option ℕ → Option RowData → Type 0
