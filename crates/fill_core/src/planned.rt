@@ -24,7 +24,7 @@ pub struct RowsBelow<'a> {
 
 // The fillings of a row, where there is one.
 fn fillings_of<'a>(row: Option<&'a Row>) -> Option<&'a Fillings>
-    ensures { (plan : PlanData) (child : ℕ) → FitsChild plan (Some child) (option_copied row) → IsPartOf plan.task (tree_at (trees_of plan.graph.nodes) child) (option_copied result) }
+    ensures { (plan : PlanData) (child : ℕ) → FitsChild plan (Some child) (option_copied row.entry) → IsPartOf plan.task (tree_at (trees_of plan.graph.nodes) child) (option_copied result) }
 {
     match row {
         Some(row) => {
