@@ -24,16 +24,16 @@ use Rattle.map_walk.proofs.ReadingLaws.{agrees, agrees_all, has_where_some}
 use Rattle.map_walk.proofs.RowCountLaws.{counted}
 use Rattle.map_walk.proofs.WalkLaws.{ones_next, some_of}
 
-or_true : (b c : Bool) → c ≡ true → b || c ≡ true
+pub or_true : (b c : Bool) → c ≡ true → b || c ≡ true
 or_true true c is = refl
 or_true false c is = is
 
-any_in : {X : Type 0} (p : X → Bool) (x : X) (xs : List X) → In x xs → p x ≡ true → list_any p xs ≡ true
+pub any_in : {X : Type 0} (p : X → Bool) (x : X) (xs : List X) → In x xs → p x ≡ true → list_any p xs ≡ true
 any_in p x [] i passes = absurd i
 any_in p x (y ∷ xs) (inl e) passes = ap (λ b. b || list_any p xs) (ap p (sym e) ∙ passes)
 any_in p x (y ∷ xs) (inr i) passes = or_true (p y) (list_any p xs) (any_in p x xs i passes)
 
-any_follow : {X : Type 0} (p q : X → Bool) (xs : List X) → ((x : X) → p x ≡ true → q x ≡ true) → list_any p xs ≡ true → list_any q xs ≡ true
+pub any_follow : {X : Type 0} (p q : X → Bool) (xs : List X) → ((x : X) → p x ≡ true → q x ≡ true) → list_any p xs ≡ true → list_any q xs ≡ true
 any_follow p q [] step some = some
 any_follow p q (x ∷ xs) step some = by (p x) refl some (any_follow p q xs step)
   where
@@ -50,7 +50,7 @@ some_set p (x ∷ xs) few = by (p x) refl (some_set p xs)
     by true is later = refl
     by false is later = let next = ap (λ b. ones (b ∷ map p xs)) is in let rest = ones_next false (map p xs) in later (omega (arith, few, next, rest))
 
-both_true : (b c : Bool) → b ≡ true → c ≡ true → b && c ≡ true
+pub both_true : (b c : Bool) → b ≡ true → c ≡ true → b && c ≡ true
 both_true b c x y = ap₂ (λ u v. u && v) x y
 
 none_kept : {X : Type 0} (p : X → Bool) (xs : List X) → ((x : X) → In x xs → p x ≡ false) → filter p xs ≡ []
@@ -61,6 +61,14 @@ drop_there : {X : Type 0} (xs : List X) (k : ℕ) (x : X) → slice_get xs k ≡
 drop_there [] k x is = absurd (none-some x is)
 drop_there (y ∷ ys) zero x is = ap (λ z. z ∷ ys) (same_Some y x is)
 drop_there (y ∷ ys) (suc k) x is = let e : suc (k + 1) ≡ suc k + 1 = omega arith in drop_there ys k x is ∙ ap (λ n. x ∷ drop n (y ∷ ys)) e
+
+-- the types of a table's columns from a place on begin with that of the column there
+pub types_next : (table : TableData) (columns : List Column) (place : ℕ) (column : Column) → columns ≡ table.columns → place < length columns → column ≡ get_or columns place column
+    → drop place (types_of table) ≡ column.kind ∷ drop (place + 1) (types_of table)
+types_next table columns place column are below is =
+    let there : slice_get columns place ≡ Some column = slice_get-get_or columns place column below ∙ ap Some (sym is) in
+    let kind : slice_get (types_of table) place ≡ Some column.kind = slice_get-map (λ (c : Column). c.kind) table.columns place ∙ ap (λ cs. option_map (λ (c : Column). c.kind) (slice_get cs place)) (sym are) ∙ ap (option_map (λ (c : Column). c.kind)) there in
+    drop_there (types_of table) place column.kind kind
 
 module _ {X : Type 0} (has : X → ℕ → Value → Bool) where
   -- each column of a map may have in some candidate the value of a row, whose places are numbered from `place`
@@ -122,10 +130,7 @@ module _ {X : Type 0} (has : X → ℕ → Value → Bool) where
   -- the type of a column more
   open_next : (types : List ColType) (candidates : List X) (table : TableData) (columns : List Column) (place : ℕ) (column : Column) → columns ≡ table.columns → place < length columns → column ≡ get_or columns place column
       → all_served has types candidates table.rows place (drop place (types_of table)) ≡ (some_serves has types candidates table.rows place column.kind && all_served has types candidates table.rows (place + 1) (drop (place + 1) (types_of table)))
-  open_next types candidates table columns place column are below is =
-      let there : slice_get columns place ≡ Some column = slice_get-get_or columns place column below ∙ ap Some (sym is) in
-      let kind : slice_get (types_of table) place ≡ Some column.kind = slice_get-map (λ (c : Column). c.kind) table.columns place ∙ ap (λ cs. option_map (λ (c : Column). c.kind) (slice_get cs place)) (sym are) ∙ ap (option_map (λ (c : Column). c.kind)) there in
-      ap (all_served has types candidates table.rows place) (drop_there (types_of table) place column.kind kind)
+  open_next types candidates table columns place column are below is = ap (all_served has types candidates table.rows place) (types_next table columns place column are below is)
 
   -- a column that is not served shuts all
   pub open_none : (types : List ColType) (candidates : List X) (table : TableData) (columns : List Column) (place : ℕ) (column : Column) → columns ≡ table.columns → place < length columns → column ≡ get_or columns place column

@@ -4,12 +4,16 @@
 mod candidate;
 mod offer;
 mod open;
+mod opening;
 mod places;
 mod reading;
+mod supply;
 mod target;
 mod walk;
 
 pub use candidate::Candidate;
 pub use open::is_open;
+pub use opening::{SupplyPair, group_opens, opens, pair_opens};
 pub use reading::{has_reading, readings};
+pub use supply::{Supply, supplies};
 pub use target::{Reading, Target};

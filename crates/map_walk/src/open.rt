@@ -6,8 +6,13 @@ use query_core::same_type;
 use table_core::{Table, Tuple};
 use value_core::{ColType, Value};
 
-// Whether some candidate may have at a place the value that a row has at another.
-fn some_has<C: Candidate>(candidates: &[C], at: usize, row: &[Value], place: usize) -> bool
+/// Whether some candidate may have at a place the value that a row has at another.
+pub(crate) fn some_has<C: Candidate>(
+    candidates: &[C],
+    at: usize,
+    row: &[Value],
+    place: usize,
+) -> bool
     ensures { result ≡ some_has C.has candidates.now at row.now place }
 {
     candidates
@@ -15,8 +20,13 @@ fn some_has<C: Candidate>(candidates: &[C], at: usize, row: &[Value], place: usi
         .any(|candidate| has_at(candidate, at, row, place))
 }
 
-// Whether a body column may have all values of the output column at a place.
-fn serves<C: Candidate>(candidates: &[C], output: &[Tuple], place: usize, at: usize) -> bool
+/// Whether a body column may have all values of the output column at a place.
+pub(crate) fn serves<C: Candidate>(
+    candidates: &[C],
+    output: &[Tuple],
+    place: usize,
+    at: usize,
+) -> bool
     ensures { result ≡ serves C.has candidates.now output.now place at }
 {
     output

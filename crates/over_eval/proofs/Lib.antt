@@ -9,3 +9,4 @@ pub mod PlacedLaws
 pub mod RowLaws
 pub mod StepLaws
 pub mod SumLaws
+pub mod ToldLaws

@@ -43,7 +43,7 @@ module _ (task : TaskParts) where
   rows_of tree = rows task.inputs task.constants tree
 
   -- the abstract rows of a tree without holes are its rows
-  whole_over : (tree : Tree) → has_hole tree ≡ false → over task tree ≡ exact task tree
+  pub whole_over : (tree : Tree) → has_hole tree ≡ false → over task tree ≡ exact task tree
   whole_over (t.base table) none = refl
   whole_over (t.filter child p) none = absurd (false≢true (sym none))
   whole_over (t.pair kind a b p) none = absurd (false≢true (sym none))

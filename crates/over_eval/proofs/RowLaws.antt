@@ -22,6 +22,7 @@ use Rattle.over_cells.specs.declared.cell.AbsCell.{AbsCell}
 use Rattle.over_cells.specs.declared.cell.AbsCell.TheVariants.{Known}
 use Rattle.over_eval.specs.Over.{AbsRow, cell_at, cells_at, plain}
 use Rattle.over_eval.specs.Live.{covers_row, covering, can_serve, serves_by}
+use Rattle.over_eval.specs.Told.{cells_have}
 
 value_of_found : (found : Option AbsCell) → unwrap_or (option_map value_of found) Null ≡ value_of (unwrap_or found (Known Null))
 value_of_found None = refl
@@ -37,10 +38,6 @@ projected_plain [] cells = refl
 projected_plain (k ∷ ks) cells = rw (plain_at cells k, projected_plain ks cells) refl
 
 -- ---- which abstract rows serve
-
--- whether an abstract row may have a value in the column at a place
-abbrev pub cells_have : AbsRow → ℕ → Value → Bool
-cells_have cells at v = covers (cell_at cells at) v
 
 -- the cells of a map cover a row where they may have all of its values
 covers_where_has : (picks : List ℕ) (cells : AbsRow) (row : Row) → covers_row (cells_at picks cells) row ≡ has_all cells_have cells picks row

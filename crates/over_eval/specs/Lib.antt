@@ -4,3 +4,4 @@ pub mod Live
 pub mod Over
 pub mod Parts
 pub mod Placed
+pub mod Told

@@ -3,6 +3,7 @@
 
 mod below;
 mod groups;
+mod kept;
 mod laws;
 mod live_numbers;
 mod members;

@@ -4,13 +4,15 @@ ghost use Rattle.query_core.specs.Grammar.{maps, skeletons};
 ghost use Rattle.query_core.specs.Meaning.{columns};
 ghost use Rattle.query_core.specs.View.{tree};
 ghost use Rattle.skeleton_graph.specs.Nodes.{tree_at, trees_of, first_use_of};
-ghost use Rattle.over_eval.specs.Kept.{kept_over, AreKept};
+ghost use Rattle.over_eval.specs.Kept.{kept_child, AreKept};
 ghost use Rattle.over_eval.specs.Laws.{live_numbers};
 ghost use Rattle.over_eval.specs.Live.{serves_by, live};
 ghost use Rattle.over_eval.specs.Over.{over};
-ghost use Rattle.over_eval.specs.Parts.{AreOversOf};
+ghost use Rattle.over_eval.specs.Parts.{ArePartsOf};
+ghost use Rattle.over_eval.specs.Told.{kept_of};
 
-use crate::below::{OverBelow, rows_of};
+use crate::below::rows_of;
+use crate::kept::{KeptBelow, KeptPart, part_rows};
 use crate::row::AbsRow;
 use crate::serve::serves;
 use crate::tree_over::over_node;
@@ -21,80 +23,75 @@ use sqlite_items::Items;
 use std::alloc::Global;
 use std::thread::Threads;
 use table_core::Task;
-use value_core::OutOfMemory;
+use value_core::{ColType, OutOfMemory};
 
 // The fewest tests that are worth a thread of their own.
 const LEAST_TESTS: usize = 16;
 
-// The rows that are kept of a child.
-fn kept_over(kept: &[Option<Items<AbsRow>>], child: Option<u32>) -> Option<&[AbsRow]>
-    ensures { option_copied result ≡ kept_over kept.now child }
+// What is kept of a child.
+fn kept_child(kept: &[Option<KeptPart>], child: Option<u32>) -> Option<&KeptPart>
+    ensures { option_copied result ≡ kept_child kept.now child }
 {
     match child {
         Some(number) => match kept.get(number as usize) {
-            Some(rows) => rows_of(rows),
+            Some(part) => part.as_ref(),
             None => None,
         },
         None => None,
     }
 }
 
-// The rows that are kept of a node's children.
-fn kept_below<'r>(kept: &'r [Option<Items<AbsRow>>], node: &SkelNode) -> OverBelow<'r>
-    ensures left { option_copied result.left ≡ kept_over kept.now node.now.left }
-    ensures right { option_copied result.right ≡ kept_over kept.now node.now.right }
+// What is kept of a node's children.
+fn kept_below<'r>(kept: &'r [Option<KeptPart>], node: &SkelNode) -> KeptBelow<'r>
+    ensures left { option_copied result.left ≡ kept_child kept.now node.now.left }
+    ensures right { option_copied result.right ≡ kept_child kept.now node.now.right }
 {
-    OverBelow {
-        left: kept_over(kept, node.left),
-        right: kept_over(kept, node.right),
+    KeptBelow {
+        left: kept_child(kept, node.left),
+        right: kept_child(kept, node.right),
     }
 }
 
-// The abstract rows of a node's skeleton over those that are kept of its children.
+// The abstract rows of a skeleton over what is kept of its parts.
 fn over_kept(
     alloc: Global,
     task: &Task,
     skeleton: &Node,
-    node: &SkelNode,
-    kept: &[Option<Items<AbsRow>>],
+    below: &KeptBelow<'_>,
 ) -> Result<Option<Items<AbsRow>>, OutOfMemory>
-    requires { AreOversOf task.now (tree skeleton.now) (kept_over kept.now node.now.left) (kept_over kept.now node.now.right) }
+    requires { ArePartsOf (kept_of task.now) (tree skeleton.now) (option_copied below.now.left) (option_copied below.now.right) }
     ensures { IfOk result (λ rows. rows ≡ over task.now (tree skeleton.now)) }
 {
-    let below = kept_below(kept, node);
-    over_node(alloc, task.parts(), skeleton, &below)
+    over_node(alloc, task.parts(), skeleton, &below.rows())
 }
 
-// Whether the abstract rows of a skeleton, if there are ever any, can serve the task's output.
-fn is_live(
+// Whether abstract rows of columns of these types, if there are ever any, can serve the task's output.
+fn can_serve(
     alloc: Global,
     task: &Task,
-    skeleton: &Node,
-    rows: &Option<Items<AbsRow>>,
+    types: &[ColType],
+    rows: Option<&[AbsRow]>,
 ) -> Result<bool, OutOfMemory>
-    ensures { IfOk result (λ b. b ≡ serves_by (maps (columns task.now.inputs (tree skeleton.now)) (types_of task.now.output)) task.now.output.rows rows.now) }
+    ensures { IfOk result (λ b. b ≡ serves_by (maps types.now (types_of task.now.output)) task.now.output.rows (option_copied rows.entry)) }
 {
     match rows {
-        Some(rows) => {
-            let types = node_types(alloc, task.inputs(), skeleton)?;
-            serves(alloc, types.as_slice(), rows.as_slice(), task.output())
-        }
+        Some(rows) => serves(alloc, types, rows, task.output()),
         None => Ok(false),
     }
 }
 
-// The abstract rows to keep of a node: those of a part of another.
-fn rows_to_keep(
+// What is kept of a node: of a part of another.
+fn part_to_keep(
     alloc: Global,
     task: &Task,
     graph: &Graph,
-    kept: &[Option<Items<AbsRow>>],
+    kept: &[Option<KeptPart>],
     number: u32,
-) -> Result<Option<Items<AbsRow>>, OutOfMemory>
+) -> Result<Option<KeptPart>, OutOfMemory>
     requires number { number < length graph.now.nodes }
     requires below { number ≤ length kept.now }
     requires kept { AreKept task.now graph.now.nodes kept.now }
-    ensures { IfOk result (λ rows. is_some (first_use_of graph.now.nodes number) ≡ true → rows ≡ over task.now (tree_at (trees_of graph.now.nodes) number)) }
+    ensures { IfOk result (λ part. is_some (first_use_of graph.now.nodes number) ≡ true → part ≡ kept_of task.now (tree_at (trees_of graph.now.nodes) number)) }
 {
     graph.is_ordered();
     graph.children_are_used();
@@ -103,31 +100,57 @@ fn rows_to_keep(
         return Ok(None);
     }
     let skeleton = graph.tree(alloc, number)?;
-    over_kept(alloc, task, &skeleton, node, kept)
+    let Some(rows) = over_kept(alloc, task, &skeleton, &kept_below(kept, node))? else {
+        return Ok(None);
+    };
+    let width = node_types(alloc, task.inputs(), &skeleton)?.len();
+    Ok(Some(KeptPart::of(alloc, width, rows, task.output())?))
 }
 
-// The abstract rows that are kept of all nodes.
+// What is kept of all nodes.
 fn kept_of_all(
     alloc: Global,
     task: &Task,
     graph: &Graph,
-) -> Result<Vec<Option<Items<AbsRow>>>, OutOfMemory>
+) -> Result<Vec<Option<KeptPart>>, OutOfMemory>
     ensures size { IfOk result (λ kept. length kept.items ≡ length graph.now.nodes) }
     ensures kept { IfOk result (λ kept. AreKept task.now graph.now.nodes kept.items) }
 {
     let mut kept = Vec::new(alloc);
     for number in 0..graph.len() {
-        kept.push(rows_to_keep(alloc, task, graph, kept.as_slice(), number)?)?;
+        kept.push(part_to_keep(alloc, task, graph, kept.as_slice(), number)?)?;
     }
     Ok(kept)
 }
 
-// Whether the skeleton of a number is live. The rows that are kept of it aren't made again.
+// Whether a skeleton with columns of these types is live. What is told of its parts is asked first, and a filter has the rows of its part.
+fn is_live_over(
+    alloc: Global,
+    task: &Task,
+    skeleton: &Node,
+    types: &[ColType],
+    below: &KeptBelow<'_>,
+) -> Result<bool, OutOfMemory>
+    requires types { types.now ≡ columns task.now.inputs (tree skeleton.now) }
+    requires below { ArePartsOf (kept_of task.now) (tree skeleton.now) (option_copied below.now.left) (option_copied below.now.right) }
+    ensures { IfOk result (λ b. b ≡ live task.now (tree skeleton.now)) }
+{
+    if !below.may_open(skeleton, types, task.output()) {
+        return Ok(false);
+    }
+    if let Node::Filter(_, _) = skeleton {
+        return can_serve(alloc, task, types, part_rows(below.left));
+    }
+    let rows = over_kept(alloc, task, skeleton, below)?;
+    can_serve(alloc, task, types, rows_of(&rows))
+}
+
+// Whether the skeleton of a number is live. What is kept of it isn't made again.
 fn is_live_at(
     alloc: Global,
     task: &Task,
     graph: &Graph,
-    kept: &[Option<Items<AbsRow>>],
+    kept: &[Option<KeptPart>],
     number: u32,
 ) -> Result<bool, OutOfMemory>
     requires number { number < length graph.now.nodes }
@@ -139,11 +162,13 @@ fn is_live_at(
     graph.children_are_used();
     let node = graph.node(number);
     let skeleton = graph.tree(alloc, number)?;
+    let types = node_types(alloc, task.inputs(), &skeleton)?;
+    let types = types.as_slice();
     if node.first_use.is_some() {
-        return is_live(alloc, task, &skeleton, &kept[number as usize]);
+        let part = kept_child(kept, Some(number));
+        return can_serve(alloc, task, types, part_rows(part));
     }
-    let rows = over_kept(alloc, task, &skeleton, node, kept)?;
-    is_live(alloc, task, &skeleton, &rows)
+    is_live_over(alloc, task, &skeleton, types, &kept_below(kept, node))
 }
 
 // Of each skeleton whether it is live, tested in parallel.
@@ -152,7 +177,7 @@ fn are_live<R: Threads + Sync>(
     alloc: Global,
     task: &Task,
     graph: &Graph,
-    kept: &[Option<Items<AbsRow>>],
+    kept: &[Option<KeptPart>],
 ) -> Result<Vec<bool>, OutOfMemory>
     requires size { length kept.now ≡ length graph.now.nodes }
     requires kept { AreKept task.now graph.now.nodes kept.now }

@@ -1,9 +1,8 @@
 ghost use Rattle.std.specs.Prelude.{◌≡◌, Some, IfOk};
 ghost use Rattle.table_core.specs.Rows.{types_of};
 ghost use Rattle.query_core.specs.Grammar.{maps};
-ghost use Rattle.over_cells.specs.Cells.{covers};
-ghost use Rattle.over_eval.specs.Over.{cell_at};
 ghost use Rattle.over_eval.specs.Live.{serves_by};
+ghost use Rattle.over_eval.specs.Told.{cells_have};
 
 use crate::row::AbsRow;
 use map_walk::{Candidate, has_reading};
@@ -12,7 +11,7 @@ use table_core::Table;
 use value_core::{ColType, OutOfMemory, Value, same};
 
 impl Candidate for AbsRow {
-    ghost has = { λ cells at v. covers (cell_at cells at) v };
+    ghost has = { cells_have };
 
     fn has(&self, at: usize, value: &Value) -> bool {
         match self.cells().get(at) {

@@ -116,7 +116,9 @@ impl Root<'_> {
         }
         let preds = read.offer.preds_with(alloc, &read.choice.pred)?;
         let picks = read.reading.picks.as_slice();
-        self.push(self.ranked(alloc, preds.as_slice(), picks, distinct)?, out)
+        let answer = self.ranked(alloc, preds.as_slice(), picks, distinct)?;
+        self.push(answer, out)?;
+        Ok(())
     }
 
     // Appends the queries of a choice by a reading, with and without removal of duplicates.
