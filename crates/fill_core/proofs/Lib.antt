@@ -1,5 +1,6 @@
 pub mod BoundLaws
 pub mod ChoiceLaws
+pub mod FitLaws
 pub mod JobLaws
 pub mod MaskLaws
 pub mod OfferLaws

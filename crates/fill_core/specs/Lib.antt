@@ -1,5 +1,6 @@
 pub mod Bounds
 pub mod Choices
+pub mod Fits
 pub mod Marks
 pub mod Offers
 pub mod Plans

@@ -18,22 +18,19 @@ pub struct Fillings {
 }
 
 impl Fillings {
-    ghost use Rattle.std.specs.Prelude.{◌≡◌, ◌+◌, ◌<◌, None, IfSome};
+    ghost use Rattle.std.specs.Prelude.{◌≡◌, ◌≤◌};
+    ghost use Rattle.table_core.specs.declared.limits.TheConstants.{LARGEST_BUDGET};
     ghost use Rattle.fill_core.specs.View.{weight};
 
-    /// What its weight leaves of a budget: none where it is more.
-    pub fn left_of(&self, budget: u64) -> Option<u64>
-        ensures left { IfSome result (λ left. left + weight self.now ≡ budget) }
-        ensures passed { result ≡ None → budget < weight self.now }
+    /// What they weigh, where no budget is too small for them.
+    pub(crate) fn weight(&self) -> u64
+        requires { weight self.now ≤ LARGEST_BUDGET }
+        ensures { result ≡ weight self.now }
     {
-        let mut left = budget;
+        let mut sum = 0;
         for entry in self.entries.as_slice() {
-            let rows = entry.rows.len() as u64;
-            if left <= rows {
-                return None;
-            }
-            left = left - rows - 1;
+            sum += entry.rows.len() as u64 + 1;
         }
-        Some(left)
+        sum
     }
 }

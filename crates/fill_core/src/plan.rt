@@ -1,5 +1,6 @@
 ghost use Rattle.std.specs.Prelude.{◌≡◌, ◌≤◌, ◌<◌, All, length, IfOk};
 ghost use Rattle.std.specs.List.Sorted.{IsStrictlyIncreasing};
+ghost use Rattle.std.specs.Arc.{arc_value};
 ghost use Rattle.query_core.specs.Grammar.{skeletons};
 ghost use Rattle.skeleton_graph.specs.Nodes.{trees_of};
 
@@ -8,7 +9,8 @@ use crate::job::Job;
 use skeleton_graph::Graph;
 use std::alloc::Global;
 use std::marker::Model;
-use table_core::Task;
+use std::sync::Arc;
+use table_core::{Task, TaskParts};
 use value_core::OutOfMemory;
 
 /// A plan of a search: the graph of a task's skeletons, which of its nodes are searched as roots, and the jobs in their order.
@@ -18,16 +20,19 @@ pub struct Plan<'t> {
     graph: Graph,
     roots: Vec<u32>,
     jobs: Vec<Job>,
+    source: Arc<TaskParts>,
 }
 
 impl<'t> Model for Plan<'t> {
+    ghost use Rattle.std.specs.Prelude.{◌≡◌};
+    ghost use Rattle.std.specs.Arc.{arc_value};
     ghost use Rattle.fill_core.specs.Plans.{PlanData, IsPlan};
 
     ghost Value = { PlanData };
 
     ghost view = { λ p. record { task = p.task.now; graph = p.graph; roots = p.roots.items; jobs = p.jobs.items } };
 
-    ghost invariant = { λ p. IsPlan p.task.now p.graph p.roots.items p.jobs.items };
+    ghost invariant = { λ p. IsPlan p.task.now p.graph p.roots.items p.jobs.items × (arc_value p.source ≡ p.task.now) };
 }
 
 impl<'t> Plan<'t> {
@@ -47,11 +52,13 @@ impl<'t> Plan<'t> {
     {
         graph.is_ordered();
         let jobs = jobs_of(alloc, &graph, roots.as_slice())?;
+        let source = Arc::new(alloc, task.parts().copy(alloc)?)?;
         Ok(Plan {
             task,
             graph,
             roots,
             jobs,
+            source,
         })
     }
 
@@ -70,6 +77,13 @@ impl<'t> Plan<'t> {
         ensures { result.now ≡ self.now.task }
     {
         self.task
+    }
+
+    /// A copy of the task's parts, which all rows of the plan share.
+    pub(crate) fn source(&self) -> Result<Arc<TaskParts>, OutOfMemory>
+        ensures { IfOk result (λ source. arc_value source ≡ self.now.task) }
+    {
+        Ok(Arc::try_clone(&self.source)?)
     }
 
     /// The graph of the task's skeletons.
