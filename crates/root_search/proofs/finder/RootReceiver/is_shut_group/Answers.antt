@@ -1,6 +1,6 @@
-use Rattle.std.proofs.Common.{◌≡◌, false, sym, ap, ◌∙◌, rules}
+use Rattle.std.proofs.Common.{◌≡◌, Bool, length, false, sym, ap, ◌∙◌, rules}
 use Rattle.query_core.specs.View.{tree}
-use Rattle.table_core.specs.Rows.{types_of}
+use Rattle.table_core.specs.Rows.{TableData, types_of}
 use Rattle.map_walk.specs.Readings.{row_has}
 use Rattle.map_walk.specs.Supply.{supplies_by, group_supplies, opens}
 use Rattle.root_search.proofs.ShutLaws.{shut_group}
@@ -11,5 +11,5 @@ returns c is =
     let r = c.args.self.now in
     let s = c.args.seen.now in
     let shut : c.standing_group_opens.result ≡ false = search (rules, is) in
-    let told = λ out. opens s.types.now (group_supplies s.keys.now (supplies_by row_has c.len.result s.rows.now out)) (types_of out) in
-    shut_group r.task.now r.number (tree r.skeleton.now) s.types.now s.keys.now c.len.result s.rows.now (ap told (sym c.output.ensures) ∙ sym c.standing_group_opens.ensures ∙ shut)
+    let told : TableData → Bool = λ out. opens s.types.now (group_supplies s.keys.now (supplies_by row_has (length s.child.now) s.rows.now out)) (types_of out) in
+    shut_group r.task.now r.number (tree r.skeleton.now) s.types.now s.keys.now (length s.child.now) s.rows.now (ap told (sym c.output.ensures) ∙ sym c.standing_group_opens.ensures ∙ shut)
