@@ -45,12 +45,7 @@ impl Row {
     ghost use Rattle.fill_core.specs.View.{AreFillingsOf, weight};
 
     /// The row of a node with these fillings, which are those of its skeleton and of these parts of a task.
-    pub(crate) fn new(
-        node: u32,
-        skeleton: Node,
-        source: Arc<TaskParts>,
-        fillings: Fillings,
-    ) -> Row
+    pub(crate) fn new(node: u32, skeleton: Node, source: Arc<TaskParts>, fillings: Fillings) -> Row
         requires filled { AreFillingsOf (arc_value source) (tree skeleton) fillings }
         requires light { weight fillings ≤ LARGEST_BUDGET }
         ensures { result ≡ record { node = node; skeleton = skeleton; source = arc_value source; fillings = fillings } }

@@ -1,5 +1,5 @@
 -- A search of the live skeletons needs what its task does, and finds the task's answers.
-use Rattle.std.proofs.Common.{◌≡◌, refl, sym, ap, ap₂, ◌∙◌, subst, ℕ, zero, suc, ◌+◌, ◌<◌, Bool, true, false, ◌||◌, cond, inl, inr, List, [], ◌∷◌, ◌++◌, length, map, Some, arith, if◌then◌else◌}
+use Rattle.std.proofs.Common.{◌≡◌, refl, sym, ap, ap₂, ◌∙◌, subst, ℕ, zero, suc, ◌+◌, ◌<◌, Bool, true, false, ◌||◌, cond, inl, inr, List, [], ◌∷◌, ◌++◌, length, map, Some, arith}
 use Rattle.std.specs.Prelude.{All, slice_get, flat_map, unwrap_or, Result, Ok, Err, IfOk}
 use Rattle.std.specs.Prelude.{filter as list_filter}
 use Rattle.std.specs.List.{enumerate_from, list_any, range_with_len, slice_index, sum_by}
@@ -13,7 +13,7 @@ use Rattle.table_core.specs.declared.task.TaskParts.{TaskParts}
 use Rattle.query_core.specs.Tree.{Tree}
 use Rattle.query_core.specs.Tree as t
 use Rattle.query_core.specs.Grammar.{skeletons}
-use Rattle.query_core.specs.Answers.{placed, ascending, comes_before, ranked, found, answers}
+use Rattle.query_core.specs.Answers.{comes_before, ranked, found, answers}
 use Rattle.query_laws.proofs.MemberLaws.{in_filter}
 use Rattle.skeleton_graph.specs.Below.{has_below}
 use Rattle.skeleton_graph.specs.Nodes.{above_of, is_among, tree_at, trees_of}
@@ -27,6 +27,7 @@ use Rattle.over_eval.specs.Live.{live}
 use Rattle.over_eval.specs.Laws.{live_skeletons, live_numbers, AnswersOfLive}
 use Rattle.root_search.specs.Answers.{root_answers}
 use Rattle.root_search.proofs.AnswerLaws.{answers_of}
+use Rattle.root_search.proofs.HitLaws.{ascending_size}
 use Rattle.top_call.specs.Need.{live_parts, need}
 use Rattle.top_call.specs.Search.{part_cost, answers_at}
 
@@ -98,19 +99,6 @@ plan_finds task nodes roots trees is live_law =
     ∙ answers_by task (trees_of nodes) (live_skeletons task) (λ s there. ap (λ ts. slice_get ts s.0) trees ∙ live_at task s there)
     ∙ sym (answers_of task (live_skeletons task) (λ s there. in_at (skeletons task) s.0 s.1 (live_at task s there)))
     ∙ ap (map (ranked task)) (sym live_law)
-
--- putting into order keeps the number of elements
-placed_size : {X : Type 0} (first : X → X → Bool) (x : X) (ys : List X) → length (placed first x ys) ≡ suc (length ys)
-placed_size first x [] = refl
-placed_size first x (y ∷ ys) = of (first y x) (placed_size first x ys)
-  where
-    of : (b : Bool) → length (placed first x ys) ≡ suc (length ys) → length (if b then y ∷ placed first x ys else x ∷ y ∷ ys) ≡ suc (suc (length ys))
-    of true size = ap suc size
-    of false size = refl
-
-ascending_size : {X : Type 0} (first : X → X → Bool) (xs : List X) → length (ascending first xs) ≡ length xs
-ascending_size first [] = refl
-ascending_size first (x ∷ xs) = placed_size first x (ascending first xs) ∙ ap suc (ascending_size first xs)
 
 -- what is summed over the numbers of a list's elements is summed over the elements
 summed : (w : Tree → ℕ) (g : ℕ → Tree) (p : ℕ → Bool) (q : Tree → Bool) (at : ℕ) (xs : List Tree) → ((i : ℕ) (x : Tree) → slice_get xs i ≡ Some x → (g (at + i) ≡ x) × (p (at + i) ≡ q x))

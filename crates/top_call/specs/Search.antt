@@ -1,17 +1,21 @@
 -- What a search of a plan keeps, finds and costs.
-use Rattle.std.specs.Prelude.{◌≡◌, ◌<◌, ◌+◌, ℕ, true, is_some, List, flat_map, length, slice_get, Contains, Option, Some, None, option_and_then}
+use Rattle.std.specs.Prelude.{◌≡◌, ◌+◌, ℕ, true, is_some, List, flat_map, length, slice_get, Contains, Option, Some, None, option_and_then}
 use Rattle.std.specs.List.{sum_by}
 use Rattle.table_core.specs.declared.task.TaskParts.{TaskParts}
 use Rattle.query_core.specs.Tree.{Tree}
 use Rattle.query_core.specs.Answers.{RankedQuery}
 use Rattle.skeleton_graph.specs.Nodes.{tree_at, trees_of}
 use Rattle.skeleton_graph.specs.declared.node.SkelNode.{SkelNode}
+use Rattle.fill_core.specs.Fits.{RowData, fits}
 use Rattle.fill_core.specs.Plans.{IsChild, PlanData}
-use Rattle.fill_core.specs.View.{AreFillingsOf, weight_of}
+use Rattle.fill_core.specs.View.{weight_of}
+use Rattle.fill_core.specs.declared.end.FillEnd.{FillEnd}
+use Rattle.fill_core.specs.declared.end.FillEnd.TheVariants as end
 use Rattle.fill_core.specs.declared.job.Job.{Job}
 use Rattle.fill_core.specs.declared.job.Job.TheVariants.{Inner, Root}
-use Rattle.fill_core.specs.declared.fillings.Fillings.{Fillings}
 use Rattle.root_search.specs.Answers.{root_answers}
+use Rattle.top_call.specs.declared.search.SearchEnd.{SearchEnd}
+use Rattle.top_call.specs.declared.search.SearchEnd.TheVariants.{OverBudget, OutOfMemory}
 
 -- the trees of a plan's nodes, by number
 abbrev pub plan_trees : PlanData → List Tree
@@ -38,28 +42,28 @@ plan_answers plan = flat_map (answers_at plan.task (plan_trees plan)) plan.roots
 abbrev pub plan_need : PlanData → ℕ
 plan_need plan = parts_weigh plan + length (plan_answers plan)
 
--- what is left of a budget after a cost; none is left where the cost is more
-abbrev pub IsLeft : ℕ → ℕ → Option ℕ → Type 0
-IsLeft budget cost None = budget < cost
-IsLeft budget cost (Some left) = left + cost ≡ budget
+-- why a search ends where a part or a root does
+abbrev pub search_end : FillEnd → SearchEnd
+search_end end.Heavy = OverBudget
+search_end end.OutOfMemory = OutOfMemory
 
 -- the row that is kept of a child, none where there is no child or none is kept
-abbrev pub kept_row : List (Option Fillings) → Option ℕ → Option Fillings
+abbrev pub kept_row : List (Option RowData) → Option ℕ → Option RowData
 kept_row rows None = None
 kept_row rows (Some number) = option_and_then (λ row. row) (slice_get rows number)
 
 -- the row of a node is kept
-abbrev pub IsKept : List (Option Fillings) → ℕ → Type 0
+abbrev pub IsKept : List (Option RowData) → ℕ → Type 0
 IsKept rows number = is_some (kept_row rows (Some number)) ≡ true
 
--- each row that is kept is the one of the node of its number
-abbrev pub AreKept : TaskParts → List SkelNode → List (Option Fillings) → Type 0
-AreKept task nodes rows = (number : ℕ) (row : Fillings) → slice_get rows number ≡ Some (Some row) → AreFillingsOf task (tree_at (trees_of nodes) number) row
+-- each row that is kept fits the node of its number
+abbrev pub AreKept : PlanData → List (Option RowData) → Type 0
+AreKept plan rows = (number : ℕ) (row : RowData) → slice_get rows number ≡ Some (Some row) → fits row plan number ≡ true
 
 -- the rows of a node's children are kept
-abbrev pub ChildrenKept : List SkelNode → List (Option Fillings) → ℕ → Type 0
+abbrev pub ChildrenKept : List SkelNode → List (Option RowData) → ℕ → Type 0
 ChildrenKept nodes rows k = (child : ℕ) → IsChild nodes k child → IsKept rows child
 
 -- the rows of the parts that some jobs fill are kept
-abbrev pub FilledAreKept : List Job → List (Option Fillings) → Type 0
+abbrev pub FilledAreKept : List Job → List (Option RowData) → Type 0
 FilledAreKept jobs rows = (k : ℕ) → Contains jobs (Inner k) → IsKept rows k

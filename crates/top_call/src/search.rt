@@ -1,16 +1,20 @@
-ghost use Rattle.std.specs.Prelude.{◌≡◌, ◌≤◌, ◌<◌, ◌+◌, ◌++◌, ◌∷◌, [], ℕ, length, map, slice_get, option_copied, Some, Err, IfOk, OnOk};
+ghost use Rattle.std.specs.Prelude.{◌≡◌, ◌≤◌, ◌<◌, ◌+◌, ◌++◌, ◌∷◌, [], ℕ, true, length, map, slice_get, option_copied, Some, Err, IfOk, OnOk};
 ghost use Rattle.query_core.specs.Answers.{ascending, comes_before};
 ghost use Rattle.rank_core.specs.View.{ranked_query, ranked_queries};
+ghost use Rattle.fill_core.specs.Fits.{RowData, fits, FitBelow};
 ghost use Rattle.fill_core.specs.Plans.{node_of};
-ghost use Rattle.fill_core.specs.View.{AreFillingsOf};
+ghost use Rattle.fill_core.specs.View.{weight, weight_of};
+ghost use Rattle.fill_core.specs.declared.end.FillEnd.TheVariants as ends;
 ghost use Rattle.skeleton_graph.specs.Nodes.{tree_at, trees_of};
-ghost use Rattle.top_call.specs.Search.{part_cost, parts_weigh, answers_at, plan_answers, plan_need, IsLeft, kept_row, AreKept, ChildrenKept, IsKept, FilledAreKept};
+ghost use Rattle.top_call.specs.Search.{part_cost, parts_weigh, answers_at, plan_answers, plan_need, kept_row, AreKept, ChildrenKept, IsKept, FilledAreKept};
 
-use fill_core::{Below, Job, Plan, Fillings, fill_over};
+use fill_core::{FillEnd, Job, Plan, Row, RowsBelow, Steps, fill_node};
 use rank_core::{Ranked, sort};
-use root_search::Root;
+use root_search::{Hits, search_root};
 use skeleton_graph::SkelNode;
 use std::alloc::Global;
+use std::marker::Brand;
+use std::sync::ledger::{Blank, Ledger};
 use value_core::OutOfMemory;
 
 /// Why a search has no answers to give.
@@ -32,8 +36,22 @@ impl From<OutOfMemory> for SearchEnd {
     }
 }
 
+impl From<FillEnd> for SearchEnd {
+    ghost use Rattle.std.specs.Prelude.{◌≡◌};
+    ghost use Rattle.top_call.specs.Search.{search_end};
+
+    ghost from_gives = { λ end given. given ≡ search_end end };
+
+    fn from(end: FillEnd) -> SearchEnd {
+        match end {
+            FillEnd::Heavy => SearchEnd::OverBudget,
+            FillEnd::OutOfMemory => SearchEnd::OutOfMemory,
+        }
+    }
+}
+
 // The row that is kept of a child.
-fn kept_row(rows: &[Option<Fillings>], child: Option<u32>) -> Option<&Fillings>
+fn kept_row(rows: &[Option<Row>], child: Option<u32>) -> Option<&Row>
     ensures { option_copied result ≡ kept_row rows.now child }
 {
     match child {
@@ -46,72 +64,74 @@ fn kept_row(rows: &[Option<Fillings>], child: Option<u32>) -> Option<&Fillings>
 }
 
 // The rows that are kept of a node's children.
-fn kept_below<'r>(rows: &'r [Option<Fillings>], node: &SkelNode) -> Below<'r>
+fn kept_of<'r>(rows: &'r [Option<Row>], node: &SkelNode) -> RowsBelow<'r>
     ensures left { option_copied result.left ≡ kept_row rows.now node.now.left }
     ensures right { option_copied result.right ≡ kept_row rows.now node.now.right }
 {
-    Below {
+    RowsBelow {
         left: kept_row(rows, node.left),
         right: kept_row(rows, node.right),
     }
 }
 
-// The row of a node over those that are kept of its children.
-fn filled(
-    alloc: Global,
-    plan: &Plan<'_>,
-    rows: &[Option<Fillings>],
-    number: u32,
-) -> Result<Fillings, OutOfMemory>
+// The rows that are kept of the children of a number's node.
+fn kept_below<'r>(plan: &Plan<'_>, rows: &'r [Option<Row>], number: u32) -> RowsBelow<'r>
     requires number { number < length plan.now.graph.nodes }
-    requires kept { AreKept plan.now.task plan.now.graph.nodes rows.now }
+    requires kept { AreKept plan.now rows.now }
     requires children { ChildrenKept plan.now.graph.nodes rows.now number }
-    ensures { IfOk result (AreFillingsOf plan.now.task (tree_at (trees_of plan.now.graph.nodes) number)) }
+    ensures { FitBelow plan.now number (option_copied result.left) (option_copied result.right) }
 {
-    let graph = plan.graph();
-    graph.is_ordered();
-    let skeleton = graph.tree(alloc, number)?;
-    let below = kept_below(rows, graph.node(number));
-    fill_over(alloc, plan.task(), &skeleton, &below)
+    kept_of(rows, plan.graph().node(number))
 }
 
-// Appends the answers of a root over the rows that are kept of its children.
-fn push_found(
+// The row of a node over those that are kept of its children.
+fn filled<L: Ledger>(
     alloc: Global,
     plan: &Plan<'_>,
-    rows: &[Option<Fillings>],
+    rows: &[Option<Row>],
     number: u32,
-    out: &mut Vec<Ranked>,
-) -> Result<(), OutOfMemory>
+    steps: &mut Steps<L>,
+) -> Result<Row, FillEnd>
     requires number { number < length plan.now.graph.nodes }
-    requires kept { AreKept plan.now.task plan.now.graph.nodes rows.now }
+    requires kept { AreKept plan.now rows.now }
     requires children { ChildrenKept plan.now.graph.nodes rows.now number }
-    ensures { OnOk result (ranked_queries out.new ≡ ranked_queries out.old ++ answers_at plan.now.task (trees_of plan.now.graph.nodes) number) }
+    ensures fits { IfOk result (λ row. fits row plan.now number ≡ true) }
+    ensures weighs { IfOk result (λ row. weight row.fillings ≡ weight_of plan.now.task (tree_at (trees_of plan.now.graph.nodes) number)) }
+    ensures heavy { result ≡ Err ends.Heavy → plan.now.task.budget < weight_of plan.now.task (tree_at (trees_of plan.now.graph.nodes) number) }
 {
-    plan.is_planned();
-    let graph = plan.graph();
-    graph.is_ordered();
-    let skeleton = graph.tree(alloc, number)?;
-    let below = kept_below(rows, graph.node(number));
-    let root = Root {
-        task: plan.task(),
-        number,
-        skeleton: &skeleton,
-    };
-    root.push_answers(alloc, &below, out)
+    let below = kept_below(plan, rows, number);
+    fill_node(alloc, plan, number, &below, steps)
+}
+
+// The answers of a root over the rows that are kept of its children.
+fn found_at<L: Ledger>(
+    alloc: Global,
+    plan: &Plan<'_>,
+    rows: &[Option<Row>],
+    number: u32,
+    steps: &mut Steps<L>,
+) -> Result<Hits, FillEnd>
+    requires number { number < length plan.now.graph.nodes }
+    requires kept { AreKept plan.now rows.now }
+    requires children { ChildrenKept plan.now.graph.nodes rows.now number }
+    ensures found { IfOk result (λ hits. map ranked_query hits ≡ ascending comes_before (answers_at plan.now.task (trees_of plan.now.graph.nodes) number)) }
+    ensures heavy { result ≡ Err ends.Heavy → plan.now.task.budget < length (answers_at plan.now.task (trees_of plan.now.graph.nodes) number) }
+{
+    let below = kept_below(plan, rows, number);
+    search_root(alloc, plan, number, &below, steps)
 }
 
 /// The rows of the parts of a search, by number, and what they leave of the budget.
 #[derive(Drop)]
 struct PartRows {
-    rows: Vec<Option<Fillings>>,
+    rows: Vec<Option<Row>>,
     left: u64,
 }
 
 // So many places for rows, all of them empty.
-fn no_rows(alloc: Global, len: u32) -> Result<Vec<Option<Fillings>>, OutOfMemory>
+fn no_rows(alloc: Global, len: u32) -> Result<Vec<Option<Row>>, OutOfMemory>
     ensures size { IfOk result (λ rows. length rows.items ≡ len) }
-    ensures none { IfOk result (λ rows. (k : ℕ) (row : Fillings) → ¬ (slice_get rows.items k ≡ Some (Some row))) }
+    ensures none { IfOk result (λ rows. (k : ℕ) (row : RowData) → ¬ (slice_get rows.items k ≡ Some (Some row))) }
 {
     let mut rows = Vec::new(alloc);
     for _ in 0..len {
@@ -120,69 +140,112 @@ fn no_rows(alloc: Global, len: u32) -> Result<Vec<Option<Fillings>>, OutOfMemory
     Ok(rows)
 }
 
-// Does a job that fills a part: keeps its row, and tells what its weight leaves of a budget. A job that searches a root does nothing.
-fn fill(
+// Does a job that fills a part: keeps its row, whose weight is taken from what is left of the budget. A job that searches a root does nothing.
+fn fill<L: Ledger>(
     alloc: Global,
     plan: &Plan<'_>,
     job: Job,
-    rows: &mut Vec<Option<Fillings>>,
-    budget: u64,
-) -> Result<Option<u64>, OutOfMemory>
+    parts: &mut PartRows,
+    steps: &mut Steps<L>,
+) -> Result<(), SearchEnd>
     requires node { node_of job < length plan.now.graph.nodes }
-    requires size { length rows.old.items ≡ length plan.now.graph.nodes }
-    requires kept { AreKept plan.now.task plan.now.graph.nodes rows.old.items }
-    requires children { ChildrenKept plan.now.graph.nodes rows.old.items (node_of job) }
-    ensures left { IfOk result (IsLeft budget (part_cost plan.now.task (trees_of plan.now.graph.nodes) job)) }
-    ensures size { OnOk result (length rows.new.items ≡ length rows.old.items) }
-    ensures kept { OnOk result (AreKept plan.now.task plan.now.graph.nodes rows.new.items) }
-    ensures still { OnOk result ((k : ℕ) → IsKept rows.old.items k → IsKept rows.new.items k) }
-    ensures filled { OnOk result (FilledAreKept (job ∷ []) rows.new.items) }
+    requires size { length parts.old.rows.items ≡ length plan.now.graph.nodes }
+    requires kept { AreKept plan.now parts.old.rows.items }
+    requires children { ChildrenKept plan.now.graph.nodes parts.old.rows.items (node_of job) }
+    requires left { parts.old.left ≤ plan.now.task.budget }
+    ensures left { OnOk result (parts.new.left + part_cost plan.now.task (trees_of plan.now.graph.nodes) job ≡ parts.old.left) }
+    ensures over { result ≡ Err SearchEnd.OverBudget → parts.old.left < part_cost plan.now.task (trees_of plan.now.graph.nodes) job }
+    ensures size { OnOk result (length parts.new.rows.items ≡ length parts.old.rows.items) }
+    ensures kept { OnOk result (AreKept plan.now parts.new.rows.items) }
+    ensures still { OnOk result ((k : ℕ) → IsKept parts.old.rows.items k → IsKept parts.new.rows.items k) }
+    ensures filled { OnOk result (FilledAreKept (job ∷ []) parts.new.rows.items) }
 {
     let Job::Inner(number) = job else {
-        return Ok(Some(budget));
+        return Ok(());
     };
-    let row = filled(alloc, plan, rows.as_slice(), number)?;
-    let left = row.left_of(budget);
-    rows[number as usize] = Some(row);
-    Ok(left)
+    let row = filled(alloc, plan, parts.rows.as_slice(), number, steps)?;
+    let weight = row.weight();
+    if parts.left < weight {
+        return Err(SearchEnd::OverBudget);
+    }
+    parts.left -= weight;
+    parts.rows[number as usize] = Some(row);
+    Ok(())
 }
 
 // The rows of all parts of a plan.
-fn fill_parts(alloc: Global, plan: &Plan<'_>) -> Result<PartRows, SearchEnd>
-    ensures kept { IfOk result (λ parts. AreKept plan.now.task plan.now.graph.nodes parts.rows.items) }
+fn fill_parts<L: Ledger>(
+    alloc: Global,
+    plan: &Plan<'_>,
+    steps: &mut Steps<L>,
+) -> Result<PartRows, SearchEnd>
+    ensures kept { IfOk result (λ parts. AreKept plan.now parts.rows.items) }
     ensures all { IfOk result (λ parts. FilledAreKept plan.now.jobs parts.rows.items) }
     ensures left { IfOk result (λ parts. parts.left + parts_weigh plan.now ≡ plan.now.task.budget) }
     ensures over { result ≡ Err SearchEnd.OverBudget → plan.now.task.budget < parts_weigh plan.now }
 {
     plan.is_planned();
-    let mut rows = no_rows(alloc, plan.graph().len())?;
-    let mut left = plan.task().parts().budget;
+    let rows = no_rows(alloc, plan.graph().len())?;
+    let left = plan.task().parts().budget;
+    let mut parts = PartRows { rows, left };
     for job in plan.jobs() {
-        match fill(alloc, plan, *job, &mut rows, left)? {
-            Some(after) => left = after,
-            None => return Err(SearchEnd::OverBudget),
-        }
+        fill(alloc, plan, *job, &mut parts, steps)?;
     }
-    Ok(PartRows { rows, left })
+    Ok(parts)
 }
 
-// The answers of the roots of a plan over the rows of its parts, in the grammar's order, where the budget has room for them.
-fn found(alloc: Global, plan: &Plan<'_>, parts: &PartRows) -> Result<Vec<Ranked>, SearchEnd>
-    requires kept { AreKept plan.now.task plan.now.graph.nodes parts.now.rows.items }
+// Appends the answers of a root.
+fn push_hits(out: &mut Vec<Ranked>, hits: Hits) -> Result<(), OutOfMemory>
+    ensures { OnOk result (out.new.items ≡ out.old.items ++ hits) }
+{
+    let mut list = hits.into_list();
+    Ok(out.append(&mut list)?)
+}
+
+// The answers of the roots of a plan over the rows of its parts, root by root, where the budget has room for them.
+fn found<L: Ledger>(
+    alloc: Global,
+    plan: &Plan<'_>,
+    parts: &PartRows,
+    steps: &mut Steps<L>,
+) -> Result<Vec<Ranked>, SearchEnd>
+    requires kept { AreKept plan.now parts.now.rows.items }
     requires all { FilledAreKept plan.now.jobs parts.now.rows.items }
-    ensures found { IfOk result (λ list. ranked_queries list ≡ plan_answers plan.now) }
+    requires left { parts.now.left ≤ plan.now.task.budget }
+    ensures found { IfOk result (λ list. ascending comes_before (ranked_queries list) ≡ ascending comes_before (plan_answers plan.now)) }
     ensures room { IfOk result (λ list. length (plan_answers plan.now) ≤ parts.now.left) }
     ensures over { result ≡ Err SearchEnd.OverBudget → parts.now.left < length (plan_answers plan.now) }
 {
     plan.is_planned();
     let mut out = Vec::new(alloc);
     for root in plan.roots() {
-        push_found(alloc, plan, parts.rows.as_slice(), *root, &mut out)?;
+        let hits = found_at(alloc, plan, parts.rows.as_slice(), *root, steps)?;
+        push_hits(&mut out, hits)?;
         if parts.left < out.len() as u64 {
             return Err(SearchEnd::OverBudget);
         }
     }
     Ok(out)
+}
+
+// The answers of the roots of a plan, best first, where the steps are counted.
+fn searched<L: Ledger>(
+    alloc: Global,
+    plan: &Plan<'_>,
+    blank: Blank,
+) -> Result<Vec<Ranked>, SearchEnd>
+    requires name { blank.name ≡ L.name }
+    requires parts { blank.parts ≡ L.parts }
+    requires some { 0 < blank.parts }
+    ensures found { IfOk result (λ list. map ranked_query list.items ≡ ascending comes_before (plan_answers plan.now)) }
+    ensures within { IfOk result (λ list. plan_need plan.now ≤ plan.now.task.budget) }
+    ensures over { result ≡ Err SearchEnd.OverBudget → plan.now.task.budget < plan_need plan.now }
+{
+    let mut steps = Steps::<L>::open(blank);
+    let parts = fill_parts(alloc, plan, &mut steps)?;
+    let mut list = found(alloc, plan, &parts, &mut steps)?;
+    sort(&mut list)?;
+    Ok(list)
 }
 
 /// The answers of the roots of a plan, best first. Each part is filled once, for all roots that have it.
@@ -193,8 +256,5 @@ pub fn search(alloc: Global, plan: &Plan<'_>) -> Result<Vec<Ranked>, SearchEnd>
     ensures within { IfOk result (λ list. plan_need plan.now ≤ plan.now.task.budget) }
     ensures over { result ≡ Err SearchEnd.OverBudget → plan.now.task.budget < plan_need plan.now }
 {
-    let parts = fill_parts(alloc, plan)?;
-    let mut list = found(alloc, plan, &parts)?;
-    sort(&mut list)?;
-    Ok(list)
+    searched::<Brand>(alloc, plan, Blank::new(1))
 }

@@ -6,17 +6,17 @@ use Rattle.top_call.proofs.SearchLaws.{put_is, put_still, put_kept, filled_inner
 use Rattle.top_call.proofs.search.fill.Goals as goal
 
 pub filled-requires-clause-kept : goal.filled-requires-clause-kept
-filled-requires-clause-kept c = subst (AreKept c.args.plan.now.task c.args.plan.now.graph.nodes) (sym c.as_slice.ensures.value) c.requires.kept
+filled-requires-clause-kept g c = subst (AreKept c.args.plan.now) (sym c.as_slice.ensures.value) c.requires.kept
 
 pub returns-clause-kept : goal.returns-clause-kept
-returns-clause-kept c = put_kept c.args.plan.now.task c.args.plan.now.graph.nodes c.args.rows.now.items c.in-Inner.number c.in_ok-row.row c.requires.kept c.in_ok-row.ensures
+returns-clause-kept g c = put_kept c.args.plan.now c.args.parts.now.rows.items c.in-Inner.number c.in_ok-row.row c.requires.kept c.in_ok-row.ensures.fits
 
 pub returns-clause-still : goal.returns-clause-still
-returns-clause-still c = λ k was. put_still c.args.rows.now.items c.in-Inner.number k c.in_ok-row.row was
+returns-clause-still g c = λ k was. put_still c.args.parts.now.rows.items c.in-Inner.number k c.in_ok-row.row was
 
 pub returns-clause-filled : goal.returns-clause-filled
-returns-clause-filled c =
-    let rows = c.args.rows.now.items in
+returns-clause-filled g c =
+    let rows = c.args.parts.now.rows.items in
     let number = c.in-Inner.number in
     let row = c.in_ok-row.row in
     let here = ap node_of c.in-Inner.is in

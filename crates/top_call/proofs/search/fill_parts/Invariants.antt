@@ -5,8 +5,8 @@ use Rattle.top_call.specs.Search.{part_cost, AreKept, FilledAreKept}
 use Rattle.top_call.proofs.search.fill_parts.Given as goal
 
 abbrev pub invariant-loop-job : goal.invariant-loop-job
-invariant-loop-job l =
-    AreKept l.plan.task l.plan.graph.nodes l.rows.items
-    × (length l.rows.items ≡ length l.plan.graph.nodes)
-    × FilledAreKept (take l.job-index l.plan.jobs) l.rows.items
-    × (l.left + sum_by (part_cost l.plan.task (trees_of l.plan.graph.nodes)) (take l.job-index l.plan.jobs) ≡ l.plan.task.budget)
+invariant-loop-job g l =
+    AreKept l.plan l.parts.rows.items
+    × (length l.parts.rows.items ≡ length l.plan.graph.nodes)
+    × FilledAreKept (take l.job-index l.plan.jobs) l.parts.rows.items
+    × (l.parts.left + sum_by (part_cost l.plan.task (trees_of l.plan.graph.nodes)) (take l.job-index l.plan.jobs) ≡ l.plan.task.budget)
