@@ -1,11 +1,11 @@
-use Rattle.std.proofs.Common.{◌≡◌, ◌≤◌, ◌<◌, ℕ, length, true, sym, ap, subst, ◌∙◌, unwrap_or, arith}
+use Rattle.std.proofs.Common.{◌≡◌, true, sym, ap, subst, unwrap_or, arith}
 use Rattle.std.specs.Prelude.{slice_get, Some}
 use Rattle.query_core.specs.Tree as t
 use Rattle.query_core.specs.View.{tree}
 use Rattle.table_core.proofs.LimitLaws.{budget_within}
 use Rattle.skeleton_graph.specs.GraphData.{GraphData}
-use Rattle.skeleton_graph.specs.Nodes.{tree_at, trees_of}
-use Rattle.fill_core.specs.Fits.{RowData, fits}
+use Rattle.skeleton_graph.specs.Nodes.{trees_of}
+use Rattle.fill_core.specs.Fits.{fits}
 use Rattle.fill_core.proofs.FitLaws.{made_fits}
 use Rattle.fill_core.proofs.planned.fill_node.Goals as goal
 

@@ -1,9 +1,10 @@
-use Rattle.std.proofs.Common.{◌+◌, get_or, map, take, sym, ap, subst, ◌∙◌, arith}
+use Rattle.std.proofs.Common.{◌+◌, ◌≤◌, length, get_or, map, take, sym, ap, subst, ◌∙◌, arith}
 use Rattle.std.specs.Prelude.{slice_get, Err}
 use Rattle.std.specs.List.{flat_map}
-use Rattle.std.proofs.lemmas.List.{length-map, map-append}
+use Rattle.std.proofs.lemmas.List.{length-map, map-append, take_all}
 use Rattle.std.proofs.lemmas.Option.{slice_get-get_or}
 use Rattle.predicate_core.proofs.OnceLists.{in_at}
+use Rattle.query_core.specs.Answers.{ascending, comes_before}
 use Rattle.rank_core.specs.View.{ranked_query, ranked_queries}
 use Rattle.skeleton_graph.specs.Nodes.{trees_of}
 use Rattle.top_call.specs.Search.{answers_at, AreKept, ChildrenKept}
@@ -60,3 +61,14 @@ loop-root-preserved g c =
       found_more f p.roots i root (ranked_queries c.loop-root.out) (map ranked_query c.in_ok-hits.hits) (ranked_queries c.push_hits.new.out) is c.loop-root.invariant.0 c.in_ok-hits.ensures.found pushed,
       omega (arith, c.len.ensures, c.if-parts-len.false),
     )
+
+pub returns-clause-room : goal.returns-clause-room
+returns-clause-room g c =
+    let p = c.args.plan.now in
+    let i = c.loop-root.root-index in
+    let f = answers_at p.task (trees_of p.graph.nodes) in
+    let len = ap length c.roots-root-items.ensures in
+    let past : length p.roots ≤ i = omega (arith, len, c.loop-root-test.false) in
+    let size = same_size (ranked_queries c.loop-root.out) (flat_map f p.roots) (c.loop-root.invariant.0 ∙ ap (λ rs. ascending comes_before (flat_map f rs)) (take_all i p.roots past)) in
+    let mapped = length-map c.loop-root.out.items ranked_query in
+    omega (arith, size, mapped, c.loop-root.invariant.1)
