@@ -1,4 +1,5 @@
 pub mod BoundLaws
+pub mod BudgetLaws
 pub mod ChoiceLaws
 pub mod FitLaws
 pub mod JobLaws

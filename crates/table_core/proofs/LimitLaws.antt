@@ -2,7 +2,6 @@
 use Rattle.std.proofs.Common.{◌≡◌, ℕ, ◌≤◌, Bool, true, false, not, ◌&&◌, Option, Some, None, if◌then◌else◌, nat_le, refl, arith}
 use Rattle.std.proofs.lemmas.Bool.{and_parts, leb-true}
 use Rattle.table_core.specs.Limits.{within, are_inputs_within, is_output_within, are_constants_within, first_bad_number, first_bad_part}
-use Rattle.table_core.specs.declared.limits.TheConstants.{LARGEST_BUDGET}
 use Rattle.table_core.specs.declared.task.TaskParts.{TaskParts}
 
 -- where nothing is found by tests in turn, none of them fails
@@ -22,15 +21,3 @@ atoms_within task e =
     let leaves = passes (within 1 3 task.leaves) _ _ ops.1 in
     let atoms = passes (within 1 3 task.atoms) _ _ leaves.1 in
     is_within 1 3 task.atoms atoms.0
-
-pub budget_within : (task : TaskParts) → first_bad_part task ≡ None → task.budget ≤ LARGEST_BUDGET
-budget_within task e =
-    let inputs = passes (are_inputs_within task.inputs) _ _ e in
-    let output = passes (is_output_within task.output) _ _ inputs.1 in
-    let constants = passes (are_constants_within task.constants) _ _ output.1 in
-    let ops = passes (within 0 4 task.ops) _ _ constants.1 in
-    let leaves = passes (within 1 3 task.leaves) _ _ ops.1 in
-    let atoms = passes (within 1 3 task.atoms) _ _ leaves.1 in
-    let show = passes (within 1 1000 task.show) _ _ atoms.1 in
-    let budget = passes (within 1 LARGEST_BUDGET task.budget) 9 None show.1 in
-    (is_within 1 LARGEST_BUDGET task.budget budget.0).1

@@ -2,7 +2,7 @@ use Rattle.std.proofs.Common.{◌≡◌, true, sym, ap, subst, unwrap_or, arith}
 use Rattle.std.specs.Prelude.{slice_get, Some}
 use Rattle.query_core.specs.Tree as t
 use Rattle.query_core.specs.View.{tree}
-use Rattle.table_core.proofs.LimitLaws.{budget_within}
+use Rattle.fill_core.proofs.BudgetLaws.{budget_within}
 use Rattle.skeleton_graph.specs.GraphData.{GraphData}
 use Rattle.skeleton_graph.specs.Nodes.{trees_of}
 use Rattle.fill_core.specs.Fits.{fits}
