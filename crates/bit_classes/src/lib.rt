@@ -6,8 +6,11 @@ mod found;
 mod join;
 mod laws;
 mod listing;
+mod sieve;
 mod walk;
 
 pub use class::{Class, ClassEnd};
+pub use join::Join;
 pub use laws::vectors_are_of_preds;
-pub use listing::classes;
+pub use listing::{classes, wanted_classes};
+pub use sieve::Sieve;
