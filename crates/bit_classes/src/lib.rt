@@ -13,4 +13,4 @@ pub use class::{Class, ClassEnd};
 pub use join::Join;
 pub use laws::vectors_are_of_preds;
 pub use listing::{classes, wanted_classes};
-pub use sieve::Sieve;
+pub use sieve::{Every, Sieve};

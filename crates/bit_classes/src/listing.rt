@@ -1,18 +1,21 @@
-ghost use Rattle.std.specs.Prelude.{◌≡◌, ◌+◌, ◌<◌, ◌≤◌, ◌^◌, ◌++◌, [], length, IfOk, OnOk};
+ghost use Rattle.std.specs.Prelude.{◌≡◌, ◌+◌, ◌<◌, ◌≤◌, ◌^◌, ◌++◌, [], length, filter, IfOk, OnOk};
 ghost use Rattle.std.specs.List.{All, enumerate_from};
 ghost use Rattle.bit_classes.specs.declared.class.ClassEnd.TheVariants.{More};
 ghost use Rattle.bit_classes.specs.declared.join.Join.TheVariants.{And, Or};
 ghost use Rattle.bit_classes.specs.Vectors.{vectors};
 ghost use Rattle.bit_classes.specs.Classes.{classes_of};
+ghost use Rattle.bit_classes.specs.Sieves.{IsSieve, is_wanted};
 ghost use Rattle.bit_classes.specs.Walk.{Sees, HasWidth, numbered, told_pairs, told_triples, told_more};
 
 use crate::class::{Class, ClassEnd};
 use crate::found::Found;
 use crate::join::Join;
+use crate::sieve::Sieve;
 use crate::walk::{see_pairs, see_rows, see_triples};
 use bit_rows::BitRow;
 use predicate_core::{pair_count, triple_count};
 use std::alloc::Global;
+use value_core::OutOfMemory;
 
 // Sees the vectors of the predicates of two atoms that are told, under the numbers from one on.
 fn see_two(found: &mut Found, rows: &[Option<BitRow>], number: u64) -> Result<(), ClassEnd>
@@ -100,4 +103,32 @@ pub fn classes(
     let mut found = Found::new(alloc, width, limit);
     see_all(&mut found, atoms, bound)?;
     found.into_classes()
+}
+
+// Leaves the classes that may be wanted.
+fn sift<S: Sieve>(sieve: &S, found: &mut Vec<Class>)
+    ensures { found.new.items ≡ filter (is_wanted (S.may sieve.now)) found.old.items }
+{
+    found.retain(|class| sieve.may(Join::And, &class.bits) && sieve.may(Join::Or, &class.bits));
+}
+
+/// Of these classes those that a sieve may want.
+pub fn wanted_classes<S: Sieve>(
+    alloc: Global,
+    sieve: &S,
+    width: usize,
+    atoms: &[BitRow],
+    bound: u32,
+) -> Result<Vec<Class>, OutOfMemory>
+    requires width { S.width sieve.now ≡ width }
+    requires sieve { IsSieve width (S.may sieve.now) }
+    requires widths { All (λ row. length row ≡ width) atoms.now }
+    requires few { length atoms.now ≤ 100000 }
+    ensures { IfOk result (λ found. found.items ≡ filter (is_wanted (S.may sieve.now)) (classes_of (vectors width atoms.now bound))) }
+{
+    let Ok(mut found) = classes(alloc, width, atoms, bound, u64::MAX) else {
+        return Err(OutOfMemory);
+    };
+    sift(sieve, &mut found);
+    Ok(found)
 }

@@ -13,6 +13,23 @@ pub trait Sieve {
 
     /// Whether a vector may be wanted. It takes no memory.
     fn may(&self, join: Join, row: &BitRow) -> bool
-        requires { length row.now ≡ width self.now }
         ensures { result ≡ may self.now join row.now };
+}
+
+/// All vectors of a width may be wanted.
+#[derive(Clone, Copy, Debug)]
+pub struct Every {
+    pub width: usize,
+}
+
+impl Sieve for Every {
+    ghost use Rattle.std.specs.Prelude.{true};
+
+    ghost width = { λ e. e.width };
+
+    ghost may = { λ e join vector. true };
+
+    fn may(&self, _join: Join, _row: &BitRow) -> bool {
+        true
+    }
 }

@@ -1,6 +1,6 @@
 -- The first predicates of classes are the standard ones.
 use Rattle.std.proofs.Common.{◌≡◌, ℕ, zero, suc, ◌+◌, Bool, true, false, not, ◌&&◌, ◌==◌, cond, List, [], ◌∷◌, map, Option, Some, None, refl, sym, ap, subst, ◌∙◌, arith, inl, inr, eq-eqb, length, get_or, ◌<◌, ◌≤◌}
-use Rattle.std.specs.Prelude.{filter, find, slice_get}
+use Rattle.std.specs.Prelude.{filter, find, slice_get, if◌then◌else◌}
 use Rattle.std.specs.List.{position_or_len, enumerate_from}
 use Rattle.std.proofs.lemmas.Bool.{cases_Bool, false≢true, eqb-true}
 use Rattle.std.proofs.lemmas.List.{length-map}
@@ -22,10 +22,12 @@ use Rattle.bit_rows.specs.Bits.{same_bits}
 use Rattle.bit_classes.specs.declared.class.Class.{Class}
 use Rattle.bit_classes.specs.Classes.{class_of, stands_first, classes_of}
 use Rattle.bit_classes.specs.Laws.{kept_vector}
+use Rattle.bit_classes.specs.Sieves as sieves
+use Rattle.bit_classes.specs.declared.join.Join.{Join}
 use Rattle.bit_classes.specs.Vectors.{vectors}
 use Rattle.bit_classes.proofs.PredLaws.{vectors_of_preds}
 use Rattle.table_core.specs.declared.task.TaskParts.{TaskParts}
-use Rattle.fill_core.specs.Choices.{chosen, class_choice, hole_choices}
+use Rattle.fill_core.specs.Choices.{chosen, class_choice, hole_choices, is_wanted}
 use Rattle.fill_core.specs.declared.choice.Choice.{Choice}
 use mathlib.Core.Bool.{beq}
 
@@ -137,7 +139,7 @@ choices_from constants candidates preds (p ∷ left) n numbered suffix =
     here false is rest = rw (stands_is constants candidates preds n p numbered there, is) rest
 
 -- the choices of the classes of the predicates over columns of these types are those of the standard predicates
-pub choices_are : (constants : List Value) (candidates : List Row) (types : List ColType) (bound width : ℕ) (rows : List (List Bool)) (found : List Class)
+choices_are : (constants : List Value) (candidates : List Row) (types : List ColType) (bound width : ℕ) (rows : List (List Bool)) (found : List Class)
     → width ≡ length candidates → rows ≡ map (λ a. kept_vector constants candidates (One a)) (atom_list types constants) → found ≡ classes_of (vectors width rows bound)
     → map (class_choice (pred_list (atom_list types constants) bound)) found
     ≡ map (chosen constants candidates) (filter (is_first_alike constants candidates (pred_list (atom_list types constants) bound)) (pred_list (atom_list types constants) bound))
@@ -154,28 +156,32 @@ vectors_wide constants candidates [] k d below = absurd (omega (arith, below))
 vectors_wide constants candidates (a ∷ atoms) zero d below = length-map candidates (λ row. keeps constants (One a) row)
 vectors_wide constants candidates (a ∷ atoms) (suc k) d below = vectors_wide constants candidates atoms k d (omega (arith, below))
 
--- there are no more classes than vectors
-classes_within : (vs : List (List Bool)) → length (classes_of vs) ≤ length vs
-classes_within vs =
-    let numbered = enumerate_from 0 vs in
-    let split = length-filter_both (stands_first vs) (λ e. not (stands_first vs e)) (λ e. refl) numbered in
-    omega (arith, split, length-map (filter (stands_first vs) numbered) class_of, length-enumerate_from 0 vs)
-
--- nor than predicates
-pub classes_are_few : (constants : List Value) (candidates : List Row) (atoms : List Atom) (bound : ℕ)
-    → length (classes_of (vectors (length candidates) (map (λ a. kept_vector constants candidates (One a)) atoms) bound)) ≤ length (pred_list atoms bound)
-classes_are_few constants candidates atoms bound =
-    let vs = vectors (length candidates) (map (λ a. kept_vector constants candidates (One a)) atoms) bound in
-    let same : length vs ≡ length (pred_list atoms bound) =
-    sym (ap length (vectors_of_preds constants atoms bound candidates)) ∙ length-map (pred_list atoms bound) (kept_vector constants candidates) in
-    omega (arith, classes_within vs, same)
-
-pub not_past : (limit found same all : ℕ) → limit < found → limit ≡ all → found ≡ same → same ≤ all → ⊥
-not_past limit found same all past is equal few = omega arith
-
 -- by a task's own constants and bound
-pub are_hole_choices : (task : TaskParts) (types : List ColType) (candidates : List Row) (constants : List Value) (bound : ℕ) (cs : List Choice) → constants ≡ task.constants → bound ≡ task.atoms
+are_hole_choices : (task : TaskParts) (types : List ColType) (candidates : List Row) (constants : List Value) (bound : ℕ) (cs : List Choice) → constants ≡ task.constants → bound ≡ task.atoms
     → cs ≡ map (chosen constants candidates) (filter (is_first_alike constants candidates (pred_list (atom_list types constants) bound)) (pred_list (atom_list types constants) bound)) → cs ≡ hole_choices task types candidates
 are_hole_choices task types candidates constants bound cs is_constants is_bound e =
     subst (λ b. cs ≡ map (chosen task.constants candidates) (filter (is_first_alike task.constants candidates (pred_list (atom_list types task.constants) b)) (pred_list (atom_list types task.constants) b))) is_bound
     (subst (λ k. cs ≡ map (chosen k candidates) (filter (is_first_alike k candidates (pred_list (atom_list types k) bound)) (pred_list (atom_list types k) bound))) is_constants e)
+
+filter_made : {X Y : Type 0} (q : Y → Bool) (f : X → Y) (xs : List X) → filter q (map f xs) ≡ map f (filter (λ x. q (f x)) xs)
+filter_made q f [] = refl
+filter_made q f (x ∷ xs) = by (q (f x)) (filter_made q f xs)
+  where
+    by : (b : Bool) → filter q (map f xs) ≡ map f (filter (λ y. q (f y)) xs) → (if b then f x ∷ filter q (map f xs) else filter q (map f xs)) ≡ map f (if b then x ∷ filter (λ y. q (f y)) xs else filter (λ y. q (f y)) xs)
+    by true rest = ap (λ ys. f x ∷ ys) rest
+    by false rest = rest
+
+-- every element passes a test that all pass
+pub filter_every : {X : Type 0} (xs : List X) → filter (λ x. true) xs ≡ xs
+filter_every [] = refl
+filter_every (x ∷ xs) = ap (λ ys. x ∷ ys) (filter_every xs)
+
+-- the choices of the classes that may be wanted are the hole's that may be
+pub wanted_are : (task : TaskParts) (types : List ColType) (candidates : List Row) (constants : List Value) (bound width : ℕ) (rows : List (List Bool)) (list : List Pred) (may : Join → List Bool → Bool) (found : List Class)
+    → constants ≡ task.constants → bound ≡ task.atoms → width ≡ length candidates → rows ≡ map (λ a. kept_vector constants candidates (One a)) (atom_list types constants) → list ≡ pred_list (atom_list types constants) bound
+    → found ≡ filter (sieves.is_wanted may) (classes_of (vectors width rows bound)) → map (class_choice list) found ≡ filter (is_wanted may) (hole_choices task types candidates)
+wanted_are task types candidates constants bound width rows list may found is_constants is_bound is_width is_rows is_list is_found =
+    let all = classes_of (vectors width rows bound) in
+    let choices = choices_are constants candidates types bound width rows all is_width is_rows refl in
+    ap (map (class_choice list)) is_found ∙ sym (filter_made (is_wanted may) (class_choice list) all)
+    ∙ ap (filter (is_wanted may)) (are_hole_choices task types candidates constants bound (map (class_choice list) all) is_constants is_bound (ap (λ l. map (class_choice l) all) is_list ∙ choices))

@@ -6,5 +6,6 @@ pub mod JobLaws
 pub mod MaskLaws
 pub mod OfferLaws
 pub mod PlanLaws
+pub mod SiftLaws
 pub mod SiteLaws
 pub mod WeightLaws

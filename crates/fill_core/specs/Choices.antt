@@ -1,5 +1,5 @@
 -- What a node keeps of its candidate rows, by each of its standard predicates.
-use Rattle.std.specs.Prelude.{ℕ, zero, suc, Bool, true, not, List, [], ◌∷◌, ◌++◌, map, take, drop, replicate, slice_get, Some, None}
+use Rattle.std.specs.Prelude.{ℕ, zero, suc, Bool, true, ◌&&◌, not, List, [], ◌∷◌, ◌++◌, map, take, drop, replicate, slice_get, Some, None}
 use Rattle.std.specs.List.{list_all, list_any}
 use Rattle.value_core.specs.declared.value.Value.{Value}
 use Rattle.value_core.specs.declared.value.ColType.{ColType}
@@ -8,6 +8,8 @@ use Rattle.table_core.specs.Rows.{Row}
 use Rattle.table_core.specs.declared.task.TaskParts.{TaskParts}
 use Rattle.query_core.specs.Filled.{first_preds}
 use Rattle.bit_classes.specs.Laws.{kept_vector}
+use Rattle.bit_classes.specs.declared.join.Join.{Join}
+use Rattle.bit_classes.specs.declared.join.Join.TheVariants.{And, Or}
 use Rattle.bit_classes.specs.declared.class.Class.{Class}
 use Rattle.fill_core.specs.declared.choice.Choice.{Choice}
 
@@ -22,6 +24,10 @@ hole_choices task types candidates = map (chosen task.constants candidates) (fir
 -- whether a choice leaves some row out
 abbrev pub drops_some : Choice → Bool
 drops_some c = not (list_all (λ b. b) c.bits)
+
+-- whether a choice may be wanted, by AND as by OR
+abbrev pub is_wanted : (Join → List Bool → Bool) → Choice → Bool
+is_wanted may c = may And c.bits && may Or c.bits
 
 -- the choice of a node without a predicate: all of so many rows
 abbrev pub every : ℕ → Choice

@@ -1,15 +1,18 @@
 -- Candidate rows with choices, the fillings that they are, and what is gathered of them.
-use Rattle.std.specs.Prelude.{◌≡◌, ℕ, List, length, [], ◌∷◌, ◌++◌, map, flat_map, Option, Some, None}
+use Rattle.std.specs.Prelude.{◌≡◌, ℕ, Bool, false, List, length, [], ◌∷◌, ◌++◌, map, flat_map, Option, Some, None}
 use Rattle.std.specs.List.{sum_by}
 use Rattle.value_core.specs.declared.value.ColType.{ColType}
 use Rattle.predicate_core.specs.declared.pred.Pred.{Pred}
 use Rattle.table_core.specs.Rows.{Row}
 use Rattle.bit_rows.specs.Masked.{masked}
+use Rattle.bit_classes.specs.Sieves.{IsSieve}
+use Rattle.bit_classes.specs.declared.join.Join as joins
 use Rattle.query_core.specs.Filled.{Filled}
 use Rattle.query_core.specs.Joins.{crossed, crossed_and_padded}
 use Rattle.query_core.specs.declared.kinds.Pairing.{Pairing}
 use Rattle.query_core.specs.declared.kinds.Pairing.TheVariants.{Join, Left}
 use Rattle.fill_core.specs.Bounds.{Passes}
+use Rattle.fill_core.specs.Choices.{is_wanted}
 use Rattle.fill_core.specs.declared.choice.Choice.{Choice}
 
 -- the element, where there is one
@@ -41,3 +44,13 @@ TooMuch bound weigh gives held fillings = Passes bound (sum_by weigh (held ++ fl
 -- no choice of some candidate rows, in columns of these types, gives anything
 abbrev pub GivesNothing : {Item : Type 0} → (Filled → List Item) → List ColType → List Row → Type 0
 GivesNothing gives types candidates = (preds : List Pred) (c : Choice) → length c.bits ≡ length candidates → gives (filled_by types preds candidates c) ≡ []
+
+-- all of some rows, in columns of these types, give nothing
+abbrev pub WholeGivesNothing : {Item : Type 0} → (Filled → List Item) → List ColType → List Row → Type 0
+WholeGivesNothing gives types rows = (preds : List Pred) → gives (record { types = types; preds = preds; rows = rows }) ≡ []
+
+-- what may be wanted of the bits of some candidate rows is a sieve, and a choice that may not be wanted gives nothing
+abbrev pub Sifts : {Item : Type 0} → (Filled → List Item) → List ColType → List Row → (joins.Join → List Bool → Bool) → Type 0
+Sifts gives types candidates may =
+    IsSieve (length candidates) may
+    × ((preds : List Pred) (c : Choice) → length c.bits ≡ length candidates → is_wanted may c ≡ false → gives (filled_by types preds candidates c) ≡ [])

@@ -7,12 +7,13 @@ ghost use Rattle.fill_core.specs.Sites.{binary_filled, binary_with, binary_types
 ghost use Rattle.fill_core.specs.View.{entry_filled};
 
 use crate::bits::left_choices;
-use crate::choice::choices;
+use crate::choice::Hole;
 use crate::end::FillEnd;
 use crate::fillings::Entry;
 use crate::offer::{Offer, Whole};
 use crate::parts_seen::PairSeen;
 use crate::receiver::Receiver;
+use crate::sifter::Sifter;
 use crate::site::Binary;
 use crate::steps::Steps;
 use bag_eval::{cross_and_pad_rows, cross_rows, unite_rows};
@@ -87,8 +88,20 @@ impl Between<'_> {
         }
     }
 
+    // The hole of a pair, over the pairs of two entries' rows.
+    fn hole<'s, 'c>(&'s self, candidates: &'c [Tuple]) -> Hole<'s, 'c>
+        ensures task { result.task.now ≡ self.now.task.now }
+        ensures types { result.types.now ≡ self.now.types.now }
+        ensures candidates { result.candidates.now ≡ candidates.now }
+    {
+        Hole {
+            task: self.task,
+            types: self.types,
+            candidates,
+        }
+    }
+
     // Hands the joins of two entries to a receiver.
-    #[tactic(auto, using(crate::proofs::OfferLaws::joins_are, crate::proofs::OfferLaws::hole_wide))]
     fn hand_joins<R: Receiver>(
         &self,
         alloc: Global,
@@ -113,7 +126,13 @@ impl Between<'_> {
             return Ok(());
         };
         let preds = parts.preds(alloc)?;
-        let choices = choices(alloc, self.task, self.types, pairs.as_slice())?;
+        let hole = self.hole(pairs.as_slice());
+        let sifter = Sifter {
+            receiver,
+            findings: &findings,
+            width: pairs.len(),
+        };
+        let choices = hole.wanted(alloc, &sifter)?;
         let offer = Offer {
             types: self.types,
             preds: preds.as_slice(),
@@ -150,7 +169,7 @@ impl Between<'_> {
         };
         let preds = parts.preds(alloc)?;
         let pairs = cross_rows(alloc, lefts, rights)?;
-        let of_pairs = choices(alloc, self.task, self.types, pairs.as_slice())?;
+        let of_pairs = self.hole(pairs.as_slice()).choices(alloc)?;
         let choices = left_choices(alloc, lefts.len(), rights.len(), of_pairs.as_slice())?;
         let offer = Offer {
             types: self.types,

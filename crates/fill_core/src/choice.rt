@@ -1,11 +1,9 @@
-ghost use Rattle.std.specs.Prelude.{◌≡◌, ◌≤◌, ◌++◌, ◌∷◌, [], IfOk, OnOk, map, length, filter};
-ghost use Rattle.predicate_core.specs.Atoms.{atom_list, pred_list};
+ghost use Rattle.std.specs.Prelude.{◌≡◌, IfOk, map};
 ghost use Rattle.predicate_core.specs.declared.pred.Pred.TheVariants.{One};
 ghost use Rattle.bit_classes.specs.Laws.{kept_vector};
-ghost use Rattle.query_core.specs.Standard.{is_first_alike};
-ghost use Rattle.fill_core.specs.Choices.{class_choice, chosen, hole_choices, drops_some, every};
+ghost use Rattle.fill_core.specs.Choices.{class_choice, drops_some, every};
 
-use bit_classes::{Class, ClassEnd, classes};
+use bit_classes::{Class, Every, Sieve, wanted_classes};
 use bit_rows::BitRow;
 use predicate_core::{Atom, Pred, PredList, atoms, keeps, preds};
 use sqlite_items::Items;
@@ -94,53 +92,59 @@ fn class_choices(
     Ok(out)
 }
 
-// The choices of the predicates of up to `bound` atoms that are each the first of those that keep the same of the candidates.
-fn first_choices(
-    alloc: Global,
-    constants: &[Value],
-    types: &[ColType],
-    bound: u32,
-    candidates: &[Tuple],
-) -> Result<Vec<Choice>, OutOfMemory>
-    ensures { IfOk result (λ cs. cs.items ≡ map (chosen constants.now candidates.now) (filter (is_first_alike constants.now candidates.now (pred_list (atom_list types.now constants.now) bound)) (pred_list (atom_list types.now constants.now) bound))) }
-{
-    let atoms = atoms(alloc, types, constants)?;
-    if atoms.len() > MOST_NUMBERED {
-        return Err(OutOfMemory);
-    }
-    let rows = atom_rows(alloc, constants, candidates, atoms.as_slice())?;
-    let list = preds(alloc, atoms.as_slice(), bound)?;
-    match classes(alloc, candidates.len(), rows.as_slice(), bound, list.len()) {
-        Ok(found) => class_choices(alloc, &list, found),
-        Err(ClassEnd::OutOfMemory) => Err(OutOfMemory),
-        Err(ClassEnd::More) => unreachable!(),
-    }
+/// The hole of a node for a predicate over columns of these types, which chooses from candidate rows.
+#[derive(Drop)]
+pub struct Hole<'a, 'b> {
+    pub task: &'a Task,
+    pub types: &'a [ColType],
+    pub candidates: &'b [Tuple],
 }
 
-/// The choices of a hole over columns of these types: each standard predicate, and which of the candidate rows it keeps.
-///
-/// The predicates of more than 100,000 atoms aren't numbered; so many atoms are answered as want of memory.
-pub fn choices(
-    alloc: Global,
-    task: &Task,
-    types: &[ColType],
-    candidates: &[Tuple],
-) -> Result<Vec<Choice>, OutOfMemory>
-    ensures { IfOk result (λ cs. cs.items ≡ hole_choices task.now types.now candidates.now) }
-{
-    first_choices(alloc, task.constants(), types, task.atoms(), candidates)
-}
+impl Hole<'_, '_> {
+    ghost use Rattle.std.specs.Prelude.{◌≡◌, IfOk, length, filter};
+    ghost use Rattle.bit_classes.specs.Sieves.{IsSieve};
+    ghost use Rattle.fill_core.specs.Choices.{hole_choices, is_wanted, drops_some};
 
-/// The choices of a filter: those of its hole that leave some row out.
-pub fn filter_choices(
-    alloc: Global,
-    task: &Task,
-    types: &[ColType],
-    candidates: &[Tuple],
-) -> Result<Vec<Choice>, OutOfMemory>
-    ensures { IfOk result (λ cs. cs.items ≡ filter drops_some (hole_choices task.now types.now candidates.now)) }
-{
-    let mut list = choices(alloc, task, types, candidates)?;
-    list.retain(|choice| choice.drops_some());
-    Ok(list)
+    /// The choices that may be wanted: each such standard predicate, and which of the candidate rows it keeps.
+    ///
+    /// The predicates of more than 100,000 atoms aren't numbered; so many atoms are answered as want of memory.
+    pub fn wanted<S: Sieve>(&self, alloc: Global, sieve: &S) -> Result<Vec<Choice>, OutOfMemory>
+        requires width { S.width sieve.now ≡ length self.now.candidates.now }
+        requires sieve { IsSieve (length self.now.candidates.now) (S.may sieve.now) }
+        ensures { IfOk result (λ cs. cs.items ≡ filter (is_wanted (S.may sieve.now)) (hole_choices self.now.task.now self.now.types.now self.now.candidates.now)) }
+    {
+        let (constants, bound) = (self.task.constants(), self.task.atoms());
+        let atoms = atoms(alloc, self.types, constants)?;
+        if atoms.len() > MOST_NUMBERED {
+            return Err(OutOfMemory);
+        }
+        let rows = atom_rows(alloc, constants, self.candidates, atoms.as_slice())?;
+        let width = self.candidates.len();
+        let found = wanted_classes(alloc, sieve, width, rows.as_slice(), bound)?;
+        let list = preds(alloc, atoms.as_slice(), bound)?;
+        class_choices(alloc, &list, found)
+    }
+
+    /// All of them.
+    pub fn choices(&self, alloc: Global) -> Result<Vec<Choice>, OutOfMemory>
+        ensures { IfOk result (λ cs. cs.items ≡ hole_choices self.now.task.now self.now.types.now self.now.candidates.now) }
+    {
+        let width = self.candidates.len();
+        self.wanted(alloc, &Every { width })
+    }
+
+    /// Those that may be wanted and leave some row out, as a filter's do.
+    pub fn wanted_drops<S: Sieve>(
+        &self,
+        alloc: Global,
+        sieve: &S,
+    ) -> Result<Vec<Choice>, OutOfMemory>
+        requires width { S.width sieve.now ≡ length self.now.candidates.now }
+        requires sieve { IsSieve (length self.now.candidates.now) (S.may sieve.now) }
+        ensures { IfOk result (λ cs. cs.items ≡ filter drops_some (filter (is_wanted (S.may sieve.now)) (hole_choices self.now.task.now self.now.types.now self.now.candidates.now))) }
+    {
+        let mut list = self.wanted(alloc, sieve)?;
+        list.retain(|choice| choice.drops_some());
+        Ok(list)
+    }
 }

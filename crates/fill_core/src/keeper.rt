@@ -8,6 +8,8 @@ use crate::fillings::Entry;
 use crate::offer::Offer;
 use crate::parts_seen::{GroupSeen, PairSeen};
 use crate::receiver::Receiver;
+use bit_classes::Join;
+use bit_rows::BitRow;
 use predicate_core::Pred;
 use sqlite_items::Items;
 use std::alloc::Global;
@@ -85,7 +87,7 @@ impl Offer<'_> {
 }
 
 impl Receiver for Keeper<'_> {
-    ghost use Rattle.std.specs.Prelude.{◌≡◌, ◌+◌, ◌∷◌, [], length};
+    ghost use Rattle.std.specs.Prelude.{◌≡◌, ◌+◌, ◌∷◌, [], length, true};
     ghost use Rattle.query_core.specs.Filled.{Filled};
     ghost use Rattle.fill_core.specs.Bounds.{Leaves};
     ghost use Rattle.fill_core.specs.View.{entries_filled, filled_weight, entries_weight};
@@ -112,6 +114,8 @@ impl Receiver for Keeper<'_> {
 
     ghost found = { λ k types candidates findings. Unit };
 
+    ghost may = { λ k findings join bits. true };
+
     fn is_shut_pair(&self, _seen: &PairSeen<'_>) -> bool {
         false
     }
@@ -127,6 +131,10 @@ impl Receiver for Keeper<'_> {
         _candidates: &[Tuple],
     ) -> Result<Option<()>, OutOfMemory> {
         Ok(Some(()))
+    }
+
+    fn may(&self, _findings: &(), _join: Join, _row: &BitRow) -> bool {
+        true
     }
 
     fn take(

@@ -19,6 +19,7 @@ mod planned;
 mod receiver;
 mod row;
 mod same;
+mod sifter;
 mod site;
 mod steps;
 

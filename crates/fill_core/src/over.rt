@@ -5,12 +5,13 @@ ghost use Rattle.fill_core.specs.Offers.{Gathered, TooMuch};
 ghost use Rattle.fill_core.specs.Sites.{unary_filled, unary_types};
 ghost use Rattle.fill_core.specs.View.{entry_filled};
 
-use crate::choice::filter_choices;
+use crate::choice::Hole;
 use crate::end::FillEnd;
 use crate::fillings::Entry;
 use crate::offer::{Offer, Whole};
 use crate::parts_seen::GroupSeen;
 use crate::receiver::Receiver;
+use crate::sifter::Sifter;
 use crate::site::Unary;
 use crate::steps::Steps;
 use bag_eval::group_tuples;
@@ -30,7 +31,6 @@ pub struct Over<'a> {
 }
 
 // Hands the standard filters over an entry, whose columns have these types, to a receiver.
-#[tactic(auto, using(crate::proofs::OfferLaws::filters_are, crate::proofs::OfferLaws::filters_wide))]
 fn hand_filters<R: Receiver>(
     alloc: Global,
     over: &Over<'_>,
@@ -49,7 +49,17 @@ fn hand_filters<R: Receiver>(
     let Some(findings) = receiver.look(alloc, over.child, rows)? else {
         return Ok(());
     };
-    let choices = filter_choices(alloc, over.task, over.child, rows)?;
+    let hole = Hole {
+        task: over.task,
+        types: over.child,
+        candidates: rows,
+    };
+    let sifter = Sifter {
+        receiver,
+        findings: &findings,
+        width: rows.len(),
+    };
+    let choices = hole.wanted_drops(alloc, &sifter)?;
     let offer = Offer {
         types: over.child,
         preds: child.preds.as_slice(),

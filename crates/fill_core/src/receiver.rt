@@ -1,15 +1,18 @@
-ghost use Rattle.std.specs.Prelude.{◌≡◌, ℕ, List, Option, All, length, Ok, Err, Some, None, true, IfOk, IfSome, OnOk};
+ghost use Rattle.std.specs.Prelude.{◌≡◌, ℕ, Bool, List, Option, All, length, Ok, Err, Some, None, true, IfOk, IfSome, OnOk};
 ghost use Rattle.value_core.specs.declared.value.ColType as values;
 ghost use Rattle.table_core.specs.Rows.{Row};
 ghost use Rattle.query_core.specs.Filled.{Filled};
 ghost use Rattle.query_core.specs.Groups.{grouped};
 ghost use Rattle.query_core.specs.declared.agg.Agg as aggs;
+ghost use Rattle.bit_classes.specs.declared.join.Join as joins;
 ghost use Rattle.fill_core.specs.declared.end.FillEnd.TheVariants as ends;
-ghost use Rattle.fill_core.specs.Offers.{filled_by_all, pair_candidates, Gathered, GivesNothing, TooMuch};
+ghost use Rattle.fill_core.specs.Offers.{filled_by_all, pair_candidates, Gathered, GivesNothing, WholeGivesNothing, Sifts, TooMuch};
 
 use crate::end::FillEnd;
 use crate::offer::Offer;
 use crate::parts_seen::{GroupSeen, PairSeen};
+use bit_classes::Join;
+use bit_rows::BitRow;
 use std::alloc::Global;
 use table_core::Tuple;
 use value_core::{ColType, OutOfMemory};
@@ -44,15 +47,18 @@ pub trait Receiver {
     // What its findings are about candidate rows of columns of these types.
     ghost found: { Self → List values.ColType → List Row → Self.Findings → Type 0 };
 
+    // Of which bits of these candidates predicates that AND joins may be wanted, and of which those that OR joins, by its findings.
+    ghost may: { Self → Self.Findings → joins.Join → List Bool → Bool };
+
     /// Whether no choice of what a pair chooses from gives it anything, told by the pair's parts alone. It may say so, and needn't.
     fn is_shut_pair(&self, seen: &PairSeen<'_>) -> bool
         requires typed { typed self.now seen.now.types.now }
         ensures { result ≡ true → GivesNothing (gives self.now) seen.now.types.now (pair_candidates seen.now.kind (length seen.now.right.now) seen.now.lefts.now seen.now.rights.now) };
 
-    /// The same of the groups of some rows, whatever their aggregate is.
+    /// The same of all of the groups of some rows, whatever their aggregate is.
     fn is_shut_group(&self, seen: &GroupSeen<'_>) -> bool
         requires typed { typed self.now seen.now.types.now }
-        ensures { result ≡ true → (agg : aggs.Agg) (groups : List Row) → grouped seen.now.keys.now agg seen.now.rows.now ≡ Some groups → GivesNothing (gives self.now) seen.now.types.now groups };
+        ensures { result ≡ true → (agg : aggs.Agg) (groups : List Row) → grouped seen.now.keys.now agg seen.now.rows.now ≡ Some groups → WholeGivesNothing (gives self.now) seen.now.types.now groups };
 
     /// Looks at the candidate rows of a combination. None where no choice of them gives it anything.
     fn look(
@@ -63,7 +69,12 @@ pub trait Receiver {
     ) -> Result<Option<Self::Findings>, OutOfMemory>
         requires typed { typed self.now types.now }
         ensures found { IfOk result (λ findings. IfSome findings (found self.now types.now candidates.now)) }
+        ensures sifts { IfOk result (λ findings. IfSome findings (λ f. Sifts (gives self.now) types.now candidates.now (may self.now f))) }
         ensures nothing { result ≡ Ok None → GivesNothing (gives self.now) types.now candidates.now };
+
+    /// Whether predicates that are joined so, and keep candidates of these bits, may be wanted, by what it found out. It takes no memory.
+    fn may(&self, findings: &Self::Findings, join: Join, row: &BitRow) -> bool
+        ensures { result ≡ may self.now findings.now join row.now };
 
     /// Gathers from the fillings that a node has over one combination, on whose candidate rows it has looked.
     fn take(
