@@ -1,6 +1,6 @@
 -- Bags of rows by counts: which numbers say that some rows, or their first copies, are an output.
 use Rattle.std.proofs.Common.{◌≡◌, refl, sym, ap, ◌∙◌, ℕ, ◌+◌, ◌<◌, ◌≤◌, Bool, true, false, not, cond, ◌&&◌, ◌==◌, List, [], ◌∷◌, ◌++◌, length, inl, inr, arith}
-use Rattle.std.specs.Prelude.{count_by, nat_lt, nat_le, filter}
+use Rattle.std.specs.Prelude.{count_by, nat_lt, nat_le, filter, ◌||◌, if◌then◌else◌}
 use Rattle.std.specs.List.{list_all, list_any, sum_by}
 use Rattle.std.proofs.lemmas.Bool.{and_parts, and_from, cases_Bool, or_cases, eqb-true, eq-eqb, ltb-true, lt-ltb, leb-true, le-leb, not_from_true, false≢true}
 use Rattle.std.proofs.lemmas.List.Sums.{sum_by-cons, count_by-le-length, length-filter}
@@ -91,12 +91,21 @@ counted_all p (y ∷ ys) x all i =
     ]
 
 -- the rows of the first copies of an output, together
-within : (xs ys : List Row) → ((x : Row) → In x xs → In x ys) → sum_by (count xs) (firsts ys) ≡ length xs
+pub within : (xs ys : List Row) → ((x : Row) → In x xs → In x ys) → sum_by (count xs) (firsts ys) ≡ length xs
 within xs ys each = places_together xs (firsts ys) (once_firsts ys) ∙ all_counted (among (firsts ys)) xs (λ x i. in_among (firsts ys) x (in_firsts x ys (each x i)))
 
-are_within : (xs ys : List Row) (x : Row) → sum_by (count xs) (firsts ys) ≡ length xs → In x xs → In x ys
+pub are_within : (xs ys : List Row) (x : Row) → sum_by (count xs) (firsts ys) ≡ length xs → In x xs → In x ys
 are_within xs ys x all i =
     firsts_in x ys (among_in (firsts ys) x (counted_all (among (firsts ys)) xs x (sym (places_together xs (firsts ys) (once_firsts ys)) ∙ all) i))
+
+-- no more of them are in places of first copies than there are
+pub within_most : (xs ys : List Row) → sum_by (count xs) (firsts ys) ≤ length xs
+within_most xs ys = rw (places_together xs (firsts ys) (once_firsts ys)) (count_by-le-length (among (firsts ys)) xs)
+
+-- each of the rows that give an output, with or without removal of duplicates, is one of the output's
+pub given_within : (distinct : Bool) (xs ys : List Row) → ((not distinct || has_double xs) && same_rows (if distinct then firsts xs else xs) ys) ≡ true → (x : Row) → In x xs → In x ys
+given_within true xs ys given x i = in_second (firsts xs) ys x (and_parts (has_double xs) (same_rows (firsts xs) ys) given).1 (in_firsts x xs i)
+given_within false xs ys given x i = in_second xs ys x given i
 
 -- rows that are one bag have the same places of each first copy, and are as many
 bag_firsts : (xs ys : List Row) → same_rows xs ys ≡ true → (y : Row) → In y (firsts ys) → count xs y ≡ count ys y

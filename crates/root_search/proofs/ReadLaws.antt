@@ -48,7 +48,7 @@ by_map task n skeleton types parts candidates c picks wide true is = by_enough t
 by_map task n skeleton types parts candidates c picks wide false is = sym (by_few task n skeleton types parts candidates c picks wide is)
 
 -- the answers of a choice by the readings are those of its filling
-choice_is : (task : TaskParts) (n : ℕ) (skeleton : Tree) (types : List ColType) (parts : List Pred) (candidates : List Row) (c : Choice) → length c.bits ≡ length candidates
+pub choice_is : (task : TaskParts) (n : ℕ) (skeleton : Tree) (types : List ColType) (parts : List Pred) (candidates : List Row) (c : Choice) → length c.bits ≡ length candidates
     → choice_answers task n skeleton parts (readings types candidates task.output) c ≡ answers_on task n skeleton (filled_by types parts candidates c)
 choice_is task n skeleton types parts candidates c wide =
     let picked = maps types (types_of task.output) in

@@ -3,3 +3,4 @@ pub mod Laws
 pub mod Readings
 pub mod Reads
 pub mod Targets
+pub mod Wanted

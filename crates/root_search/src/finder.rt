@@ -1,14 +1,16 @@
 ghost use Rattle.std.specs.Prelude.{◌≡◌, ◌==◌, length};
 ghost use Rattle.std.specs.List.{list_all};
 
+use crate::looked::Looked;
 use crate::refill::refilled;
 use crate::target::bits_give;
+use bit_classes::Join;
+use bit_rows::BitRow;
 use fill_core::{Choice, FillEnd, GroupSeen, Offer, PairSeen, Receiver};
 use map_walk::{Reading, Standing, is_open, readings, standing_group_opens, standing_pair_opens};
 use predicate_core::Pred;
 use query_core::{Node, Query};
 use rank_core::{Ranked, key};
-use sqlite_items::Items;
 use std::alloc::Global;
 use table_core::{Task, Tuple};
 use value_core::{ColType, OutOfMemory, concatenated, copied};
@@ -182,12 +184,13 @@ impl Receiver for Root<'_> {
     ghost use Rattle.rank_core.specs.View.{ranked_queries};
     ghost use Rattle.root_search.specs.Answers.{answers_on, FillingFits};
     ghost use Rattle.root_search.specs.Readings.{readings};
+    ghost use Rattle.root_search.specs.Wanted.{may_want};
     ghost use Rattle.fill_core.specs.Bounds.{IsWithin};
     ghost use Rattle.std.specs.Prelude.{◌≡◌, length};
 
     type Store = Vec<Ranked>;
 
-    type Findings = Items<Reading>;
+    type Findings = Looked;
 
     ghost Item = { RankedQuery };
 
@@ -205,7 +208,9 @@ impl Receiver for Root<'_> {
 
     ghost accepts = { λ f filled. FillingFits f.task.now (tree f.skeleton.now) filled };
 
-    ghost found = { λ f types candidates list. list ≡ readings types candidates f.task.now.output };
+    ghost found = { λ f types candidates looked. looked.readings ≡ readings types candidates f.task.now.output };
+
+    ghost may = { λ f looked join bits. may_want looked join bits };
 
     fn is_shut_pair(&self, seen: &PairSeen<'_>) -> bool {
         let width = seen.left.len();
@@ -236,7 +241,7 @@ impl Receiver for Root<'_> {
         alloc: Global,
         types: &[ColType],
         candidates: &[Tuple],
-    ) -> Result<Option<Items<Reading>>, OutOfMemory> {
+    ) -> Result<Option<Looked>, OutOfMemory> {
         if !is_open(types, candidates, self.task.output()) {
             return Ok(None);
         }
@@ -244,17 +249,21 @@ impl Receiver for Root<'_> {
         if list.is_empty() {
             return Ok(None);
         }
-        Ok(Some(list))
+        Ok(Some(Looked::new(list, candidates.len())))
+    }
+
+    fn may(&self, findings: &Looked, join: Join, row: &BitRow) -> bool {
+        findings.may_want(join, row)
     }
 
     fn take(
         &self,
         alloc: Global,
         offer: &Offer<'_>,
-        findings: &Items<Reading>,
+        findings: &Looked,
         store: &mut Vec<Ranked>,
     ) -> Result<(), FillEnd> {
-        let readings = findings.as_slice();
+        let readings = findings.readings();
         for choice in offer.choices {
             let reads = Reads {
                 offer: &*offer,

@@ -4,6 +4,7 @@
 mod finder;
 mod hits;
 mod laws;
+mod looked;
 mod refill;
 mod root;
 mod target;

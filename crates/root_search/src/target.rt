@@ -5,7 +5,7 @@ use bit_rows::BitRow;
 use map_walk::Target;
 
 // How many of a target's candidates these bits keep.
-fn shared(target: &Target, bits: &BitRow) -> usize
+pub(crate) fn shared(target: &Target, bits: &BitRow) -> usize
     requires { length bits.now ≡ length target.now.mask }
     ensures { result ≡ shared bits.now target.now.mask }
 {
