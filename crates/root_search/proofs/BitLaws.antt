@@ -37,16 +37,16 @@ length_masked (true ∷ bits) (x ∷ xs) same = omega (arith, length_masked bits
 length_masked (false ∷ bits) (x ∷ xs) same = omega (arith, length_masked bits xs (omega (arith, same)), ones_next false bits)
 
 -- the tests on targets are those on the first copies of the output's rows
-sum_targets : {X Y : Type 0} (f : Y → ℕ) (g : X → Y) (xs : List X) → sum_by f (map g xs) ≡ sum_by (λ x. f (g x)) xs
+pub sum_targets : {X Y : Type 0} (f : Y → ℕ) (g : X → Y) (xs : List X) → sum_by f (map g xs) ≡ sum_by (λ x. f (g x)) xs
 sum_targets f g [] = refl
 sum_targets f g (x ∷ xs) = sum_by-cons f (g x) (map g xs) ∙ ap (λ n. f (g x) + n) (sum_targets f g xs) ∙ sym (sum_by-cons (λ y. f (g y)) x xs)
 
 module _ (picks : List ℕ) (bits : List Bool) (candidates output : List Row) (long : length bits ≡ length candidates) where
   -- how many of the rows are the same as a row, and how many there are
-  found_is : count (selected picks (masked bits candidates)) ≡ (λ y. shared bits (mask_of picks candidates y))
+  pub found_is : count (selected picks (masked bits candidates)) ≡ (λ y. shared bits (mask_of picks candidates y))
   found_is = λ i y. count_masked (projected picks) (λ r. same_cells r y) bits candidates i
 
-  total_is : length (selected picks (masked bits candidates)) ≡ ones bits
+  pub total_is : length (selected picks (masked bits candidates)) ≡ ones bits
   total_is = length-map (masked bits candidates) (projected picks) ∙ length_masked bits candidates long
 
   all_is : same_rows (selected picks (masked bits candidates)) output ≡ all_give (length output) bits (targets picks candidates output)

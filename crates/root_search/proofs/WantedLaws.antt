@@ -1,7 +1,8 @@
 -- What choices of candidate rows may be wanted: a choice that gives the output is, and so is what it is joined of.
-use Rattle.std.proofs.Common.{◌≡◌, refl, sym, ap, subst, ◌∙◌, ℕ, ◌+◌, ◌-◌, ◌≤◌, Bool, true, false, not, ◌&&◌, ◌||◌, ◌==◌, List, [], ◌∷◌, ◌++◌, length, map, inl, inr, arith}
-use Rattle.std.specs.Prelude.{nat_le, All, filter, flat_map, if◌then◌else◌}
+use Rattle.std.proofs.Common.{◌≡◌, refl, sym, ap, subst, ◌∙◌, ℕ, ◌+◌, ◌-◌, ◌<◌, ◌≤◌, drop, get_or, Bool, true, false, not, ◌&&◌, ◌||◌, ◌==◌, List, [], ◌∷◌, ◌++◌, length, map, inl, inr, arith}
+use Rattle.std.specs.Prelude.{nat_le, nat_lt, All, filter, flat_map, if◌then◌else◌}
 use Rattle.std.specs.List.{list_all, list_any, sum_by}
+use Rattle.std.proofs.lemmas.List.{at_drop_more, length-map}
 use Rattle.std.proofs.lemmas.Bool.{and_parts, and_from, both_ways, eqb-true, eq-eqb, leb-true, le-leb, false≢true, cases_Bool}
 use Rattle.value_core.specs.declared.value.ColType.{ColType}
 use Rattle.predicate_core.specs.declared.pred.Pred.{Pred}
@@ -27,6 +28,7 @@ use Rattle.map_walk.specs.Targets.{ones, are_enough}
 use Rattle.map_walk.specs.declared.target.Reading.{Reading}
 use Rattle.map_walk.specs.declared.target.Target.{Target}
 use Rattle.map_walk.proofs.OpenLaws.{any_in, any_follow}
+use Rattle.map_walk.proofs.RowCountLaws.{both_same}
 use Rattle.map_walk.proofs.WalkLaws.{ones_next}
 use Rattle.root_search.specs.Answers.{answers_on}
 use Rattle.root_search.specs.Reads.{read_answer, read_answers, choice_answers}
@@ -122,7 +124,7 @@ given_enough false wanted bits ts given =
     (and_parts (ones bits == wanted) (list_all (λ t. shared bits t.mask == t.copies) ts) given).1
 
 module _ (types : List ColType) (candidates : List Row) (task : TaskParts) (bits : List Bool) (long : length bits ≡ length candidates) where
-  its : List Reading
+  abbrev its : List Reading
   its = readings types candidates task.output
 
   -- by some reading that gives it
@@ -133,4 +135,85 @@ module _ (types : List ColType) (candidates : List Row) (task : TaskParts) (bits
       let h = in_map (reading_of candidates task.output.rows) r picked i in
       let rows = selected h.0 (masked bits candidates) in
       let by_rows : rows_give h.0 distinct (masked bits candidates) task.output.rows ≡ true = given_by_bits h.0 distinct bits candidates task.output.rows long ∙ ap (λ (q : Reading). bits_give distinct (length task.output.rows) bits q.targets) (sym h.2) ∙ given in
-      any_in (is_within bits) r its i (ap (is_within bits) h.2 ∙ within_from h.0 candidates task.output.rows bits long (given_within distinct rows task.output.rows (rows_given distinct h.0 (masked bits candidates) task.output.rows by_rows)))
+      any_in (is_within bits) r its i (ap (is_within bits) h.2 ∙ within_from h.0 candidates task.output.rows bits long (given_within distinct rows task.output.rows by_rows))
+
+flat_map_none : {X Y : Type 0} (f : X → List Y) (xs : List X) → ((x : X) → In x xs → f x ≡ []) → flat_map f xs ≡ []
+flat_map_none f [] none = refl
+flat_map_none f (x ∷ xs) none = rw (none x (inl refl)) (flat_map_none f xs (λ y i. none y (inr i)))
+
+module _ (task : TaskParts) (n : ℕ) (skeleton : Tree) (types : List ColType) (candidates : List Row) where
+  abbrev all : Looked
+  all = record { readings = readings types candidates task.output; width = length candidates }
+
+  -- what is told of bits of the candidates
+  told : (join : Join) (bits : List Bool) → length bits ≡ length candidates → may_want all join bits ≡ may_be_wanted join all.readings bits
+  told join bits long = ap (λ b. if b then may_be_wanted join all.readings bits else true) (eq-eqb _ _ long)
+
+  -- a choice that may not be wanted gives nothing
+  unwanted : (preds : List Pred) (c : Choice) → length c.bits ≡ length candidates → is_wanted (may_want all) c ≡ false → answers_on task n skeleton (filled_by types preds candidates c) ≡ []
+  unwanted preds c long out =
+      sym (choice_is task n skeleton types preds candidates c long)
+      ∙ flat_map_none (read_answers task n skeleton preds c) all.readings (λ r i. ap (λ x. x ++ read_answer task n skeleton preds c r true) (none r i false) ∙ none r i true)
+    where
+      refused : (distinct : Bool) (r : Reading) → In r all.readings → bits_give distinct (length task.output.rows) c.bits r.targets ≡ false
+      refused distinct r i = elim (cases_Bool (bits_give distinct (length task.output.rows) c.bits r.targets)) as (λ w. bits_give distinct (length task.output.rows) c.bits r.targets ≡ false) [
+        | inl given ↦
+            let by : (join : Join) → may_want all join c.bits ≡ true = λ join. told join c.bits long ∙ given_wanted types candidates task c.bits long distinct r i given join in
+            absurd (false≢true (sym out ∙ and_from (may_want all And c.bits) (may_want all Or c.bits) (by And) (by Or)))
+        | inr not_given ↦ not_given
+      ]
+
+      none : (r : Reading) → In r all.readings → (distinct : Bool) → read_answer task n skeleton preds c r distinct ≡ []
+      none r i distinct = rw (refused distinct r i) refl
+
+  any_made : (p : Reading → Bool) (ps : List (List ℕ)) → list_any p (map (reading_of candidates task.output.rows) ps) ≡ list_any (λ picks. p (reading_of candidates task.output.rows picks)) ps
+  any_made p [] = refl
+  any_made p (picks ∷ ps) = ap (λ b. p (reading_of candidates task.output.rows picks) || b) (any_made p ps)
+
+  -- where two may be wanted joined, so may each
+  apart : (join : Join) (a b : List Bool) → length a ≡ length candidates → length b ≡ length candidates → length (combined join a b) ≡ length candidates → may_be_wanted join all.readings (combined join a b) ≡ true
+      → (may_be_wanted join all.readings a ≡ true) × (may_be_wanted join all.readings b ≡ true)
+  apart And a b long_a long_b long may = (
+    any_follow (has_enough (and_bits a b)) (has_enough a) all.readings (enough_more (and_bits a b) a (shared_first a b)) may,
+    any_follow (has_enough (and_bits a b)) (has_enough b) all.readings (enough_more (and_bits a b) b (shared_second a b)) may,
+  )
+  apart Or a b long_a long_b long may =
+      let read = reading_of candidates task.output.rows in
+      let picked = filter (λ picks. are_enough (targets picks candidates task.output.rows)) (maps types (types_of task.output)) in
+      let joined : list_any (λ picks. is_within (or_bits a b) (read picks)) picked ≡ true = sym (any_made (is_within (or_bits a b)) picked) ∙ may in (
+        any_made (is_within a) picked ∙ any_follow (λ picks. is_within (or_bits a b) (read picks)) (λ picks. is_within a (read picks)) picked (λ picks e. (within_less picks candidates task.output.rows a b long_a long_b long e).0) joined,
+        any_made (is_within b) picked ∙ any_follow (λ picks. is_within (or_bits a b) (read picks)) (λ picks. is_within b (read picks)) picked (λ picks e. (within_less picks candidates task.output.rows a b long_a long_b long e).1) joined,
+      )
+
+  is_sieve : IsSieve (length candidates) (may_want all)
+  is_sieve join a b long_a long_b may =
+      let long : length (combined join a b) ≡ length candidates = joined_length join a b (long_a ∙ sym long_b) ∙ long_a in
+      let each = apart join a b long_a long_b long (sym (told join (combined join a b) long) ∙ may) in
+      (told join a long_a ∙ each.0, told join b long_b ∙ each.1)
+
+  -- what was looked at sifts
+  pub looked_sifts : (looked : Looked) → looked.readings ≡ readings types candidates task.output → looked.width ≡ length candidates → Sifts (answers_on task n skeleton) types candidates (may_want looked)
+  looked_sifts looked is_readings is_width =
+      let same : all ≡ looked = ap (λ rs. let l : Looked = record { readings = rs; width = length candidates } in l) (sym is_readings) ∙ ap (λ w. let l : Looked = record { readings = looked.readings; width = w } in l) (sym is_width) in
+      subst (λ l. Sifts (answers_on task n skeleton) types candidates (may_want l)) same (is_sieve, unwanted)
+
+-- the masks of readings of so many candidates are wide enough
+pub are_wide : (types : List ColType) (candidates : List Row) (task : TaskParts) → AreWide (length candidates) (readings types candidates task.output)
+are_wide types candidates task =
+    let bits : List Bool = map (λ row. true) candidates in
+    let long : length bits ≡ length candidates = length-map candidates (λ row. true) in
+    subst (λ w. AreWide w (readings types candidates task.output)) long (readings_wide types candidates task bits long)
+
+-- ---- in turn
+
+-- what is left to be found after a target more
+pub less_left : (left found rest : ℕ) (b : Bool) → nat_le left (found + rest) ≡ b → nat_le (left - found) rest ≡ b
+less_left left found rest b is =
+    both_same (nat_le (left - found) rest) (nat_le left (found + rest)) (λ e. le-leb _ _ (let h = leb-true _ _ e in omega (arith, h))) (λ e. le-leb _ _ (let h = leb-true _ _ e in omega (arith, h))) ∙ is
+
+-- whether some reading is within, after one more
+pub within_next : (bits : List Bool) (rs : List Reading) (i : ℕ) (r : Reading) (ts : List Target) (b whole : Bool) → i < length rs → ts ≡ (get_or rs i r).targets → b ≡ nat_le (ones bits) (sum_by (λ t. shared bits t.mask) ts)
+    → whole ≡ list_any (is_within bits) (drop i rs) → whole ≡ b || list_any (is_within bits) (drop (i + 1) rs)
+within_next bits rs i r ts b whole below are here so_far =
+    so_far ∙ at_drop_more (list_any (is_within bits)) rs i r below
+    ∙ ap (λ c. c || list_any (is_within bits) (drop (i + 1) rs)) (ap (λ xs. nat_le (ones bits) (sum_by (λ t. shared bits t.mask) xs)) (sym are) ∙ sym here)
