@@ -12,6 +12,7 @@ mod keys;
 mod lists;
 mod make;
 mod membership;
+mod planned;
 mod predicates;
 mod pruning;
 mod queries;

@@ -6,6 +6,7 @@ ghost use Rattle.skeleton_graph.specs.Nodes.{trees_of};
 
 use crate::fault::Failed;
 use crate::make::{Shape, Tree, node, task};
+use crate::planned::searched;
 use crate::show::Abstract;
 use fill_core::Plan;
 use over_eval::{AbsRow, live, over, serves};
@@ -13,6 +14,8 @@ use predicate_core::Pred;
 use query_core::{Agg, Node, Pairing, node_types};
 use skeleton_graph::{Graph, GraphFault, build};
 use std::alloc::Global;
+use std::marker::Brand;
+use std::sync::ledger::Blank;
 use std::thread::Threads;
 use table_core::Task;
 
@@ -32,7 +35,7 @@ const TWO_LIVE: Shape = Shape {
     inputs: &[("t", "id v#\na 1\na 2")],
     output: "id\na",
     constants: "1",
-    numbers: [1, 1, 1, 25, 1],
+    numbers: [1, 1, 1, 25, 10],
     ..Shape::LEAST
 };
 
@@ -82,7 +85,7 @@ fn trees(rt: &impl Print, alloc: Global, task: &Task) -> Result<(), Failed> {
     Ok(())
 }
 
-// The live skeletons of a graph, and the jobs of a search of its last node as the only root.
+// The live skeletons of a graph, and the jobs of a search of them.
 fn planned<R: Print + Threads + Sync>(
     rt: &R,
     alloc: Global,
@@ -91,15 +94,11 @@ fn planned<R: Print + Threads + Sync>(
 ) -> Result<(), Failed>
     requires { trees_of graph.nodes ≡ skeletons task.now }
 {
-    let numbers = live(rt, alloc, task, &graph)?;
-    println!(rt; "{:?}", numbers.as_slice())?;
-    let mut roots = Vec::new(alloc);
-    if !graph.is_empty() {
-        roots.push(graph.len() - 1)?;
-    }
+    let roots = live(rt, alloc, task, &graph)?;
+    println!(rt; "{:?}", roots.as_slice())?;
     let plan = Plan::new(alloc, task, graph, roots)?;
     println!(rt; "{:?}", plan.jobs())?;
-    Ok(())
+    searched::<Brand>(rt, alloc, &plan, Blank::new(1))
 }
 
 // Those of the graph of a task.
