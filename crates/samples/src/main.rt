@@ -24,6 +24,7 @@ mod shapes;
 mod show;
 mod steps;
 mod tables;
+mod tell;
 mod trees;
 mod values;
 

@@ -8,6 +8,7 @@ use crate::fault::Failed;
 use crate::make::{Shape, Tree, node, task};
 use crate::planned::searched;
 use crate::show::Abstract;
+use crate::tell::tell;
 use fill_core::Plan;
 use over_eval::{AbsRow, live, over, serves};
 use predicate_core::Pred;
@@ -65,22 +66,38 @@ fn listed(rt: &impl Print, rows: &[AbsRow]) -> Result<(), Failed> {
     Ok(())
 }
 
+// Whether the abstract rows of a tree can serve the output.
+fn served(alloc: Global, task: &Task, tree: &Node, rows: &[AbsRow]) -> Result<bool, Failed> {
+    let types = node_types(alloc, task.parts().inputs.as_slice(), tree)?;
+    Ok(serves(alloc, types.as_slice(), rows, task.output())?)
+}
+
+fn told(
+    rt: &impl Print,
+    alloc: Global,
+    task: &Task,
+    tree: &Node,
+    rows: &[AbsRow],
+) -> Result<(), Failed> {
+    listed(rt, rows)?;
+    tell(rt, "", &served(alloc, task, tree, rows)?, "")
+}
+
 // The abstract rows of a tree, and whether they can serve the output.
 fn shown(rt: &impl Print, alloc: Global, task: &Task, tree: &Node) -> Result<(), Failed> {
-    let Some(rows) = over(alloc, task.parts(), tree)? else {
-        println!(rt; "never")?;
-        return Ok(());
-    };
-    listed(rt, rows.as_slice())?;
-    let types = node_types(alloc, task.parts().inputs.as_slice(), tree)?;
-    let serves = serves(alloc, types.as_slice(), rows.as_slice(), task.output())?;
-    println!(rt; "{serves}")?;
-    Ok(())
+    match over(alloc, task.parts(), tree)? {
+        Some(rows) => told(rt, alloc, task, tree, rows.as_slice()),
+        None => tell(rt, "", &"never", ""),
+    }
+}
+
+fn of_tree(rt: &impl Print, alloc: Global, task: &Task, tree: &Tree) -> Result<(), Failed> {
+    shown(rt, alloc, task, &node(alloc, tree)?)
 }
 
 fn trees(rt: &impl Print, alloc: Global, task: &Task) -> Result<(), Failed> {
     for tree in TREES {
-        shown(rt, alloc, task, &node(alloc, tree)?)?;
+        of_tree(rt, alloc, task, tree)?;
     }
     Ok(())
 }
