@@ -25,15 +25,15 @@ fn joined(alloc: Global, a: &BitRow, b: &BitRow) -> Result<[usize; 2], Failed>
     Ok([both, either])
 }
 
-// The same in the place of another row.
+// The same in the places of other rows.
 fn joined_in_place(alloc: Global, a: &BitRow, b: &BitRow) -> Result<[usize; 2], Failed>
     requires { length a.now ≡ length b.now }
 {
-    let mut row = a.copy(alloc)?;
-    row.set_and(a, b);
-    let both = row.ones();
-    row.set_or(a, b);
-    Ok([both, row.ones()])
+    let mut both = a.copy(alloc)?;
+    both.set_and(a, b);
+    let mut either = a.copy(alloc)?;
+    either.set_or(a, b);
+    Ok([both.ones(), either.ones()])
 }
 
 // What two rows are alone and together.
