@@ -125,27 +125,77 @@ fn joined(alloc: Global, front: &str, back: &str) -> Result<Bytes, Failed> {
     Ok(Bytes::from_vec(bytes))
 }
 
-// A folder of a task file, its input and its output.
-fn folder(alloc: Global, task: Bytes, table: &[u8], output: &[u8]) -> Result<MemFolder, Failed> {
-    let mut files = Vec::new(alloc);
-    files.push((Bytes::of(alloc, b"t.toml")?, task))?;
-    files.push((Bytes::of(alloc, b"t.csv")?, Bytes::of(alloc, table)?))?;
-    files.push((Bytes::of(alloc, b"out.csv")?, Bytes::of(alloc, output)?))?;
-    Ok(MemFolder::new(alloc, files, fails(alloc, 0)?)?)
+// A file: its name and its bytes.
+fn file(alloc: Global, name: &[u8], bytes: &[u8]) -> Result<(Bytes, Bytes), Failed> {
+    let name = Bytes::of(alloc, name)?;
+    Ok((name, Bytes::of(alloc, bytes)?))
 }
 
-// The status of a run of the task file in this folder, and what it wrote.
+// A task file, its input and its output.
+fn files(
+    alloc: Global,
+    task: &[u8],
+    table: &[u8],
+    output: &[u8],
+) -> Result<Vec<(Bytes, Bytes)>, Failed> {
+    let mut files = Vec::new(alloc);
+    files.push(file(alloc, b"t.toml", task)?)?;
+    files.push(file(alloc, b"t.csv", table)?)?;
+    files.push(file(alloc, b"out.csv", output)?)?;
+    Ok(files)
+}
+
+// A folder of them.
+fn folder(alloc: Global, task: &[u8], table: &[u8], output: &[u8]) -> Result<MemFolder, Failed> {
+    let fails = fails(alloc, 0)?;
+    Ok(MemFolder::new(alloc, files(alloc, task, table, output)?, fails)?)
+}
+
+fn sink(alloc: Global) -> Result<MemSink, Failed> {
+    Ok(MemSink::new(alloc, 1000, 1000, fails(alloc, 0)?)?)
+}
+
+fn words(alloc: Global) -> Result<[Bytes; 2], Failed> {
+    let run = Bytes::of(alloc, b"run")?;
+    Ok([run, Bytes::of(alloc, b"t.toml")?])
+}
+
+// The status of a run of the task file in this folder.
+fn status<R: Threads + Sync>(
+    rt: &R,
+    alloc: Global,
+    folder: &mut MemFolder,
+    out: &mut MemSink,
+    err: &mut MemSink,
+) -> Result<u8, Failed> {
+    let words = words(alloc)?;
+    Ok(scythe(rt, alloc, &words, folder, out, err, &OpenGate).status())
+}
+
+// The status of a run, and what it wrote.
+fn told(rt: &impl Print, status: u8, out: &[u8], err: &[u8]) -> Result<(), Failed> {
+    print!(rt; "{status}: {}{}", text(out), text(err))?;
+    Ok(())
+}
+
+fn run<R: Print + Threads + Sync>(
+    rt: &R,
+    alloc: Global,
+    folder: &mut MemFolder,
+    out: &mut MemSink,
+    err: &mut MemSink,
+) -> Result<(), Failed> {
+    let status = status(rt, alloc, folder, out, err)?;
+    told(rt, status, out.bytes(), err.bytes())
+}
+
 fn shown<R: Print + Threads + Sync>(
     rt: &R,
     alloc: Global,
     folder: &mut MemFolder,
 ) -> Result<(), Failed> {
-    let words = [Bytes::of(alloc, b"run")?, Bytes::of(alloc, b"t.toml")?];
-    let mut out = MemSink::new(alloc, 1000, 1000, fails(alloc, 0)?)?;
-    let mut err = MemSink::new(alloc, 1000, 1000, fails(alloc, 0)?)?;
-    let status = scythe(rt, alloc, &words, folder, &mut out, &mut err, &OpenGate).status();
-    print!(rt; "{status}: {}{}", text(out.bytes()), text(err.bytes()))?;
-    Ok(())
+    let mut out = sink(alloc)?;
+    run(rt, alloc, folder, &mut out, &mut sink(alloc)?)
 }
 
 // A task file of so many bytes: a comment, and then a task of one answer.
@@ -156,14 +206,35 @@ fn of_length(alloc: Global, length: usize) -> Result<Bytes, Failed> {
     Ok(Bytes::from_vec(bytes))
 }
 
+// The folder of a case.
+fn case_folder(alloc: Global, (front, back, table, output): &Case) -> Result<MemFolder, Failed> {
+    folder(alloc, joined(alloc, front, back)?.as_slice(), table, output)
+}
+
+fn case<R: Print + Threads + Sync>(rt: &R, alloc: Global, case: &Case) -> Result<(), Failed> {
+    shown(rt, alloc, &mut case_folder(alloc, case)?)
+}
+
+// The folder of a task file of so many bytes.
+fn long_folder(alloc: Global, length: usize) -> Result<MemFolder, Failed> {
+    folder(
+        alloc,
+        of_length(alloc, length)?.as_slice(),
+        b"v\n1\n",
+        b"v\n1\n",
+    )
+}
+
+fn long<R: Print + Threads + Sync>(rt: &R, alloc: Global, length: usize) -> Result<(), Failed> {
+    shown(rt, alloc, &mut long_folder(alloc, length)?)
+}
+
 pub fn samples<R: Print + Threads + Sync>(rt: &R, alloc: Global) -> Result<(), Failed> {
-    for (front, back, table, output) in CASES {
-        let task = joined(alloc, front, back)?;
-        shown(rt, alloc, &mut folder(alloc, task, table, output)?)?;
+    for it in CASES {
+        case(rt, alloc, it)?;
     }
     for length in [65_536, 65_537] {
-        let task = of_length(alloc, length)?;
-        shown(rt, alloc, &mut folder(alloc, task, b"v\n1\n", b"v\n1\n")?)?;
+        long(rt, alloc, length)?;
     }
     Ok(())
 }

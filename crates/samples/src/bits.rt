@@ -3,6 +3,7 @@
 ghost use Rattle.std.specs.Prelude.{◌≡◌, length};
 
 use crate::fault::Failed;
+use crate::tell::tell;
 use bit_rows::BitRow;
 use std::alloc::Global;
 
@@ -15,34 +16,48 @@ fn every(alloc: Global, len: usize, step: usize) -> Result<BitRow, Failed> {
     Ok(BitRow::of(alloc, bits.as_slice())?)
 }
 
-// How many bits are set in two rows, in both and in one of them.
-fn joined(rt: &impl Print, alloc: Global, a: &BitRow, b: &BitRow) -> Result<(), Failed>
+// How many bits are set in both of two rows, and in one of them.
+fn joined(alloc: Global, a: &BitRow, b: &BitRow) -> Result<[usize; 2], Failed>
     requires { length a.now ≡ length b.now }
 {
-    println!(rt; "{} bits: {} and {} are set", a.len(), a.ones(), b.ones())?;
     let both = a.and(alloc, b)?.ones();
     let either = a.or(alloc, b)?.ones();
-    println!(rt; "  {both} in both, {either} in one")?;
-    Ok(())
+    Ok([both, either])
 }
 
-// The same in the place of another row.
-fn both_in_place(rt: &impl Print, alloc: Global, a: &BitRow, b: &BitRow) -> Result<(), Failed>
+// The same in the places of other rows.
+fn joined_in_place(alloc: Global, a: &BitRow, b: &BitRow) -> Result<[usize; 2], Failed>
     requires { length a.now ≡ length b.now }
 {
-    let mut row = a.copy(alloc)?;
-    row.set_and(a, b);
-    println!(rt; "  {} in both, in place", row.ones())?;
-    Ok(())
+    let mut both = a.copy(alloc)?;
+    both.set_and(a, b);
+    let mut either = a.copy(alloc)?;
+    either.set_or(a, b);
+    Ok([both.ones(), either.ones()])
 }
 
-fn either_in_place(rt: &impl Print, alloc: Global, a: &BitRow, b: &BitRow) -> Result<(), Failed>
-    requires { length a.now ≡ length b.now }
-{
-    let mut row = a.copy(alloc)?;
-    row.set_or(a, b);
-    println!(rt; "  {} in one, in place", row.ones())?;
-    Ok(())
+// What two rows are alone and together.
+fn told(
+    rt: &impl Print,
+    alone: [usize; 3],
+    made: [usize; 2],
+    set: [usize; 2],
+) -> Result<(), Failed> {
+    let [len, first, second] = alone;
+    println!(rt; "{len} bits: {first} and {second} are set")?;
+    println!(rt; "  {} in both, {} in one", made[0], made[1])?;
+    tell(rt, "  ", &set[0], " in both, in place")?;
+    tell(rt, "  ", &set[1], " in one, in place")
+}
+
+// Two rows of one length.
+fn both(rt: &impl Print, alloc: Global, a: &BitRow, b: &BitRow) -> Result<(), Failed> {
+    if a.len() != b.len() {
+        return Err(Failed::BadSample);
+    }
+    let made = joined(alloc, a, b)?;
+    let set = joined_in_place(alloc, a, b)?;
+    told(rt, [a.len(), a.ones(), b.ones()], made, set)
 }
 
 // How long two rows are, and the steps of their bits.
@@ -57,13 +72,7 @@ const PAIRS: &[(usize, usize, usize)] = &[
 
 fn pair(rt: &impl Print, alloc: Global, case: &(usize, usize, usize)) -> Result<(), Failed> {
     let a = every(alloc, case.0, case.1)?;
-    let b = every(alloc, case.0, case.2)?;
-    if a.len() != b.len() {
-        return Err(Failed::BadSample);
-    }
-    joined(rt, alloc, &a, &b)?;
-    both_in_place(rt, alloc, &a, &b)?;
-    either_in_place(rt, alloc, &a, &b)
+    both(rt, alloc, &a, &every(alloc, case.0, case.2)?)
 }
 
 // The places of the bits that are set, one past the end, and whether all are set.
@@ -77,8 +86,7 @@ fn read(rt: &impl Print, row: &BitRow) -> Result<(), Failed> {
     Ok(())
 }
 
-fn full(rt: &impl Print, alloc: Global) -> Result<(), Failed> {
-    let row = BitRow::full(alloc, 130)?;
+fn full(rt: &impl Print, row: &BitRow) -> Result<(), Failed> {
     println!(rt; "of a full row {} are set, all: {}", row.ones(), row.all())?;
     Ok(())
 }
@@ -93,5 +101,5 @@ fn pairs(rt: &impl Print, alloc: Global, cases: &[(usize, usize, usize)]) -> Res
 pub fn samples(rt: &impl Print, alloc: Global) -> Result<(), Failed> {
     pairs(rt, alloc, PAIRS)?;
     read(rt, &every(alloc, 130, 64)?)?;
-    full(rt, alloc)
+    full(rt, &BitRow::full(alloc, 130)?)
 }

@@ -1,3 +1,4 @@
+use fill_core::FillEnd;
 use query_core::QueryFault;
 use std::alloc::{AllocError, AllocFailed};
 use std::io;
@@ -67,5 +68,14 @@ impl From<PushFault> for Failed {
 impl From<BadPart> for Failed {
     fn from(_fault: BadPart) -> Failed {
         Failed::BadSample
+    }
+}
+
+impl From<FillEnd> for Failed {
+    fn from(end: FillEnd) -> Failed {
+        match end {
+            FillEnd::Heavy => Failed::BadSample,
+            FillEnd::OutOfMemory => Failed::NoMemory,
+        }
     }
 }

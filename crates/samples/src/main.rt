@@ -12,6 +12,7 @@ mod keys;
 mod lists;
 mod make;
 mod membership;
+mod planned;
 mod predicates;
 mod pruning;
 mod queries;
@@ -23,6 +24,7 @@ mod shapes;
 mod show;
 mod steps;
 mod tables;
+mod tell;
 mod trees;
 mod values;
 

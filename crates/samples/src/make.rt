@@ -163,9 +163,11 @@ pub fn node(alloc: Global, tree: &Tree) -> Result<Node, Failed> {
 
 /// The query of a tree that gives these columns.
 pub fn query(alloc: Global, tree: &Tree, map: &[usize], distinct: bool) -> Result<Query, Failed> {
+    let map = Items::from_slice(alloc, map)?;
+    let body = node(alloc, tree)?;
     Ok(Query {
-        body: node(alloc, tree)?,
-        map: Items::from_slice(alloc, map)?,
+        body,
+        map,
         distinct,
     })
 }

@@ -82,6 +82,15 @@ fn member(rt: &impl Print, alloc: Global, task: &Task, query: &Query) -> Result<
     Ok(())
 }
 
+// The query of a case.
+fn made(alloc: Global, case: &Case) -> Result<Query, Failed> {
+    query(alloc, &case.0, case.1, case.2)
+}
+
+fn tried(rt: &impl Print, alloc: Global, task: &Task, case: &Case) -> Result<(), Failed> {
+    member(rt, alloc, task, &made(alloc, case)?)
+}
+
 const SUMS: Shape = Shape {
     inputs: &[("t", "g v#\na 9223372036854775807\na 1")],
     output: "g",
@@ -108,36 +117,54 @@ const SUM_FORMS: &[Case] = &[
     ),
 ];
 
+// A query in its standard form.
+fn told(rt: &impl Print, form: &Query) -> Result<(), Failed> {
+    print!(rt; "{:?} ", form.body)?;
+    println!(rt; "{:?}, distinct: {}", form.map.as_slice(), form.distinct)?;
+    Ok(())
+}
+
+fn told_standard(rt: &impl Print, standard: &Standard) -> Result<(), Failed> {
+    match standard {
+        Standard::Form(form) => told(rt, form),
+        Standard::Past64 => {
+            println!(rt; "leaves 64 bits")?;
+            Ok(())
+        }
+    }
+}
+
 // The standard form of a query.
 fn form(rt: &impl Print, alloc: Global, task: &Task, query: &Query) -> Result<(), Failed> {
-    match standard_form(alloc, task, query)? {
-        Standard::Form(form) => {
-            println!(rt;
-                "{:?} {:?}, distinct: {}",
-                form.body,
-                form.map.as_slice(),
-                form.distinct
-            )?;
-        }
-        Standard::Past64 => println!(rt; "leaves 64 bits")?,
+    told_standard(rt, &standard_form(alloc, task, query)?)
+}
+
+fn formed(rt: &impl Print, alloc: Global, task: &Task, case: &Case) -> Result<(), Failed> {
+    form(rt, alloc, task, &made(alloc, case)?)
+}
+
+fn members(rt: &impl Print, alloc: Global, task: &Task, cases: &[Case]) -> Result<(), Failed> {
+    for case in cases {
+        tried(rt, alloc, task, case)?;
     }
     Ok(())
 }
 
 // The standard forms of queries of a task.
-fn forms(rt: &impl Print, alloc: Global, shape: &Shape, cases: &[Case]) -> Result<(), Failed> {
-    let task = task(alloc, shape)?;
-    for (tree, map, distinct) in cases {
-        form(rt, alloc, &task, &query(alloc, tree, map, *distinct)?)?;
+fn forms(rt: &impl Print, alloc: Global, task: &Task, cases: &[Case]) -> Result<(), Failed> {
+    for case in cases {
+        formed(rt, alloc, task, case)?;
     }
     Ok(())
 }
 
+// Both over the two tables.
+fn of_two(rt: &impl Print, alloc: Global, task: &Task) -> Result<(), Failed> {
+    members(rt, alloc, task, MEMBERS)?;
+    forms(rt, alloc, task, FORMS)
+}
+
 pub fn samples(rt: &impl Print, alloc: Global) -> Result<(), Failed> {
-    let task = task(alloc, &SHAPE)?;
-    for (tree, map, distinct) in MEMBERS {
-        member(rt, alloc, &task, &query(alloc, tree, map, *distinct)?)?;
-    }
-    forms(rt, alloc, &SHAPE, FORMS)?;
-    forms(rt, alloc, &SUMS, SUM_FORMS)
+    of_two(rt, alloc, &task(alloc, &SHAPE)?)?;
+    forms(rt, alloc, &task(alloc, &SUMS)?, SUM_FORMS)
 }

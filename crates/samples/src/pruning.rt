@@ -6,13 +6,17 @@ ghost use Rattle.skeleton_graph.specs.Nodes.{trees_of};
 
 use crate::fault::Failed;
 use crate::make::{Shape, Tree, node, task};
+use crate::planned::searched;
 use crate::show::Abstract;
+use crate::tell::tell;
 use fill_core::Plan;
 use over_eval::{AbsRow, live, over, serves};
 use predicate_core::Pred;
 use query_core::{Agg, Node, Pairing, node_types};
 use skeleton_graph::{Graph, GraphFault, build};
 use std::alloc::Global;
+use std::marker::Brand;
+use std::sync::ledger::Blank;
 use std::thread::Threads;
 use table_core::Task;
 
@@ -32,7 +36,7 @@ const TWO_LIVE: Shape = Shape {
     inputs: &[("t", "id v#\na 1\na 2")],
     output: "id\na",
     constants: "1",
-    numbers: [1, 1, 1, 25, 1],
+    numbers: [1, 1, 1, 25, 10],
     ..Shape::LEAST
 };
 
@@ -62,27 +66,43 @@ fn listed(rt: &impl Print, rows: &[AbsRow]) -> Result<(), Failed> {
     Ok(())
 }
 
+// Whether the abstract rows of a tree can serve the output.
+fn served(alloc: Global, task: &Task, tree: &Node, rows: &[AbsRow]) -> Result<bool, Failed> {
+    let types = node_types(alloc, task.parts().inputs.as_slice(), tree)?;
+    Ok(serves(alloc, types.as_slice(), rows, task.output())?)
+}
+
+fn told(
+    rt: &impl Print,
+    alloc: Global,
+    task: &Task,
+    tree: &Node,
+    rows: &[AbsRow],
+) -> Result<(), Failed> {
+    listed(rt, rows)?;
+    tell(rt, "", &served(alloc, task, tree, rows)?, "")
+}
+
 // The abstract rows of a tree, and whether they can serve the output.
 fn shown(rt: &impl Print, alloc: Global, task: &Task, tree: &Node) -> Result<(), Failed> {
-    let Some(rows) = over(alloc, task.parts(), tree)? else {
-        println!(rt; "never")?;
-        return Ok(());
-    };
-    listed(rt, rows.as_slice())?;
-    let types = node_types(alloc, task.parts().inputs.as_slice(), tree)?;
-    let serves = serves(alloc, types.as_slice(), rows.as_slice(), task.output())?;
-    println!(rt; "{serves}")?;
-    Ok(())
+    match over(alloc, task.parts(), tree)? {
+        Some(rows) => told(rt, alloc, task, tree, rows.as_slice()),
+        None => tell(rt, "", &"never", ""),
+    }
+}
+
+fn of_tree(rt: &impl Print, alloc: Global, task: &Task, tree: &Tree) -> Result<(), Failed> {
+    shown(rt, alloc, task, &node(alloc, tree)?)
 }
 
 fn trees(rt: &impl Print, alloc: Global, task: &Task) -> Result<(), Failed> {
     for tree in TREES {
-        shown(rt, alloc, task, &node(alloc, tree)?)?;
+        of_tree(rt, alloc, task, tree)?;
     }
     Ok(())
 }
 
-// The live skeletons of a graph, and the jobs of a search of its last node as the only root.
+// The live skeletons of a graph, and the jobs of a search of them.
 fn planned<R: Print + Threads + Sync>(
     rt: &R,
     alloc: Global,
@@ -91,15 +111,11 @@ fn planned<R: Print + Threads + Sync>(
 ) -> Result<(), Failed>
     requires { trees_of graph.nodes ≡ skeletons task.now }
 {
-    let numbers = live(rt, alloc, task, &graph)?;
-    println!(rt; "{:?}", numbers.as_slice())?;
-    let mut roots = Vec::new(alloc);
-    if !graph.is_empty() {
-        roots.push(graph.len() - 1)?;
-    }
+    let roots = live(rt, alloc, task, &graph)?;
+    println!(rt; "{:?}", roots.as_slice())?;
     let plan = Plan::new(alloc, task, graph, roots)?;
     println!(rt; "{:?}", plan.jobs())?;
-    Ok(())
+    searched::<Brand>(rt, alloc, &plan, Blank::new(1))
 }
 
 // Those of the graph of a task.

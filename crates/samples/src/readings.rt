@@ -3,9 +3,10 @@
 use crate::fault::Failed;
 use crate::make::{Files, fails, files};
 use crate::show::{Cell, Grid, text};
+use crate::tell::tell;
 use io_edge::{Folder, MemFolder, SureFolder};
 use std::alloc::Global;
-use table_core::TaskParts;
+use table_core::{Task, TaskParts};
 use task_read::{TaskEnd, read_task};
 
 const TASK: (&str, &str) = (
@@ -51,53 +52,61 @@ const CASES: &[(Files, u64)] = &[
     (&[("task.toml", "ops = 2\n"), INPUT, OUTPUT], 0),
 ];
 
+// The numbers of a task.
+fn numbers(rt: &impl Print, parts: &TaskParts) -> Result<(), Failed> {
+    let numbers = [parts.ops, parts.leaves, parts.atoms, parts.show];
+    print!(rt; "a task: {numbers:?}, ")?;
+    println!(rt; "{}, {:?}", parts.budget, parts.aggregates)?;
+    Ok(())
+}
+
 // The parts of a task.
 fn parts(rt: &impl Print, parts: &TaskParts) -> Result<(), Failed> {
-    let numbers = [parts.ops, parts.leaves, parts.atoms, parts.show];
-    println!(rt;
-        "a task: {numbers:?}, {}, {:?}",
-        parts.budget, parts.aggregates
-    )?;
+    numbers(rt, parts)?;
     for input in parts.inputs.as_slice() {
-        println!(rt; "  {}", Grid(input))?;
+        tell(rt, "  ", &Grid(input), "")?;
     }
-    println!(rt; "  {}", Grid(&parts.output))?;
+    tell(rt, "  ", &Grid(&parts.output), "")?;
     for constant in parts.constants.as_slice() {
-        println!(rt; "  constant {}", Cell(constant))?;
+        tell(rt, "  constant ", &Cell(constant), "")?;
     }
     Ok(())
 }
 
-// The task of a folder, or why there is none.
-fn task<F: Folder>(rt: &impl Print, alloc: Global, folder: &mut F) -> Result<(), Failed> {
-    match read_task(alloc, folder, b"task.toml") {
+// A task, or why there is none.
+fn told(rt: &impl Print, read: &Result<Task, TaskEnd>) -> Result<(), Failed> {
+    match read {
         Ok(task) => parts(rt, task.parts()),
-        Err(TaskEnd::ReadFault { file }) => {
-            println!(rt; "can't read {}", text(file.as_slice()))?;
-            Ok(())
-        }
-        Err(TaskEnd::Bad(_)) => {
-            println!(rt; "something is wrong")?;
-            Ok(())
-        }
+        Err(TaskEnd::ReadFault { file }) => tell(rt, "can't read ", &text(file.as_slice()), ""),
+        Err(TaskEnd::Bad(_)) => tell(rt, "", &"something is wrong", ""),
         Err(TaskEnd::OutOfMemory) => Err(Failed::NoMemory),
     }
 }
 
-// The task of files of which one read fails.
-fn failing(rt: &impl Print, alloc: Global, held: Files, fail: u64) -> Result<(), Failed> {
-    let mut folder = MemFolder::new(alloc, files(alloc, held)?, fails(alloc, fail)?)?;
-    task(rt, alloc, &mut folder)
+// The task of a folder.
+fn task<F: Folder>(rt: &impl Print, alloc: Global, folder: &mut F) -> Result<(), Failed> {
+    told(rt, &read_task(alloc, folder, b"task.toml"))
+}
+
+// A folder of files of which one read fails.
+fn failing(alloc: Global, held: Files, fail: u64) -> Result<MemFolder, Failed> {
+    let fails = fails(alloc, fail)?;
+    Ok(MemFolder::new(alloc, files(alloc, held)?, fails)?)
+}
+
+fn case(rt: &impl Print, alloc: Global, case: &(Files, u64)) -> Result<(), Failed> {
+    task(rt, alloc, &mut failing(alloc, case.0, case.1)?)
+}
+
+// The task of files that are always read.
+fn sure(rt: &impl Print, alloc: Global, held: Files) -> Result<(), Failed> {
+    task(rt, alloc, &mut SureFolder::new(files(alloc, held)?))
 }
 
 pub fn samples(rt: &impl Print, alloc: Global) -> Result<(), Failed> {
-    for (held, fail) in CASES {
-        failing(rt, alloc, held, *fail)?;
+    for it in CASES {
+        case(rt, alloc, it)?;
     }
-    task(rt, alloc, &mut SureFolder::new(files(alloc, ONE_INPUT)?))?;
-    task(
-        rt,
-        alloc,
-        &mut SureFolder::new(files(alloc, &[TASK, OUTPUT])?),
-    )
+    sure(rt, alloc, ONE_INPUT)?;
+    sure(rt, alloc, &[TASK, OUTPUT])
 }

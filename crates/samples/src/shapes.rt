@@ -4,6 +4,7 @@ ghost use Rattle.std.specs.Prelude.{◌<◌, length};
 
 use crate::fault::Failed;
 use crate::make::{Shape, task};
+use crate::tell::tell_both;
 use query_core::Agg;
 use skeleton_graph::{Graph, GraphFault, Kind, build};
 use std::alloc::Global;
@@ -93,14 +94,22 @@ fn graph(alloc: Global, task: &Task) -> Result<Option<Graph>, Failed> {
     }
 }
 
-fn listed(rt: &impl Print, alloc: Global, shape: &Shape) -> Result<(), Failed> {
-    match graph(alloc, &task(alloc, shape)?)? {
-        Some(graph) => kinds(rt, &graph),
+fn graph_of(alloc: Global, shape: &Shape) -> Result<Option<Graph>, Failed> {
+    graph(alloc, &task(alloc, shape)?)
+}
+
+fn told(rt: &impl Print, graph: &Option<Graph>) -> Result<(), Failed> {
+    match graph {
+        Some(graph) => kinds(rt, graph),
         None => {
             println!(rt; "more than 100000 skeletons")?;
             Ok(())
         }
     }
+}
+
+fn listed(rt: &impl Print, alloc: Global, shape: &Shape) -> Result<(), Failed> {
+    told(rt, &graph_of(alloc, shape)?)
 }
 
 // The uses of a node, each the number of the user and its side.
@@ -114,14 +123,28 @@ fn uses(rt: &impl Print, graph: &Graph, k: u32) -> Result<(), Failed>
     Ok(())
 }
 
+// The tree of a node, and the types of its columns.
+fn tree(rt: &impl Print, alloc: Global, graph: &Graph, k: u32) -> Result<(), Failed>
+    requires { k < length graph.now.nodes }
+{
+    tell_both(rt, &graph.tree(alloc, k)?, " ", &graph.types(k))
+}
+
+// The nodes above a node.
+fn above(rt: &impl Print, alloc: Global, graph: &Graph, k: u32) -> Result<(), Failed>
+    requires { k < length graph.now.nodes }
+{
+    println!(rt; ", below {:?}", graph.above(alloc, k)?.as_slice())?;
+    Ok(())
+}
+
 // A node: its tree and the types of its columns, its uses, and the nodes above it.
 fn node(rt: &impl Print, alloc: Global, graph: &Graph, k: u32) -> Result<(), Failed>
     requires { k < length graph.now.nodes }
 {
-    println!(rt; "{:?} {:?}", graph.tree(alloc, k)?, graph.types(k))?;
+    tree(rt, alloc, graph, k)?;
     uses(rt, graph, k)?;
-    println!(rt; ", below {:?}", graph.above(alloc, k)?.as_slice())?;
-    Ok(())
+    above(rt, alloc, graph, k)
 }
 
 // The nodes of a graph.
@@ -132,12 +155,16 @@ fn nodes(rt: &impl Print, alloc: Global, graph: &Graph) -> Result<(), Failed> {
     Ok(())
 }
 
+fn of_some(rt: &impl Print, alloc: Global, graph: &Option<Graph>) -> Result<(), Failed> {
+    match graph {
+        Some(graph) => nodes(rt, alloc, graph),
+        None => Err(Failed::BadSample),
+    }
+}
+
 pub fn samples(rt: &impl Print, alloc: Global) -> Result<(), Failed> {
     for shape in CASES {
         listed(rt, alloc, shape)?;
     }
-    match graph(alloc, &task(alloc, &SIX)?)? {
-        Some(graph) => nodes(rt, alloc, &graph),
-        None => Err(Failed::BadSample),
-    }
+    of_some(rt, alloc, &graph_of(alloc, &SIX)?)
 }

@@ -2,12 +2,13 @@
 
 use crate::fault::Failed;
 use crate::make::{Shape, Tree, node, parts, table};
+use crate::tell::tell_both;
 use predicate_core::{Atom, Pred};
 use query_core::{
     Agg, Node, Pairing, Uniting, columns, group_types, input_types, names_columns, names_inputs,
     node_types, picked_types, table_types, types_agree,
 };
-use sqlite_items::Boxed;
+use sqlite_items::{Boxed, Items};
 use std::alloc::Global;
 use table_core::{Table, TaskParts};
 use value_core::{CmpOp, ColType};
@@ -61,10 +62,9 @@ const TREES: &[Tree] = &[
 // The types of a tree's columns, or the first thing that is wrong with it.
 fn typed(rt: &impl Print, alloc: Global, task: &TaskParts, node: &Node) -> Result<(), Failed> {
     match columns(alloc, task, node) {
-        Ok(types) => println!(rt; "{node:?}: {:?}", types.as_slice())?,
-        Err(fault) => println!(rt; "{node:?}: {fault:?}")?,
+        Ok(types) => tell_both(rt, node, ": ", &types.as_slice()),
+        Err(fault) => tell_both(rt, node, ": ", &fault),
     }
-    Ok(())
 }
 
 // Which of the three things are right with a tree.
@@ -81,10 +81,17 @@ fn boxed(alloc: Global, node: &Node) -> Result<Boxed<Node>, Failed> {
     Ok(node.boxed(alloc)?)
 }
 
+fn boxed_tree(alloc: Global, tree: &Tree) -> Result<Boxed<Node>, Failed> {
+    boxed(alloc, &node(alloc, tree)?)
+}
+
+fn told(rt: &impl Print, alloc: Global, task: &TaskParts, node: &Node) -> Result<(), Failed> {
+    typed(rt, alloc, task, node)?;
+    checked(rt, alloc, task, node)
+}
+
 fn shown(rt: &impl Print, alloc: Global, task: &TaskParts, tree: &Tree) -> Result<(), Failed> {
-    let node = boxed(alloc, &node(alloc, tree)?)?;
-    typed(rt, alloc, task, node.get())?;
-    checked(rt, alloc, task, node.get())
+    told(rt, alloc, task, boxed_tree(alloc, tree)?.get())
 }
 
 // Types, and what they are of.
@@ -93,21 +100,26 @@ fn named(rt: &impl Print, name: &str, types: &[ColType]) -> Result<(), Failed> {
     Ok(())
 }
 
+// The types of a table's columns.
+fn of_table(alloc: Global) -> Result<Items<ColType>, Failed> {
+    Ok(table_types(alloc, &table(alloc, "t", "k n#")?)?)
+}
+
+fn picked(rt: &impl Print, alloc: Global, types: &[ColType]) -> Result<(), Failed> {
+    let picked = picked_types(alloc, types, &[1, 0, 1])?;
+    named(rt, "picked", picked.as_slice())
+}
+
+fn grouped(rt: &impl Print, alloc: Global, types: &[ColType]) -> Result<(), Failed> {
+    let grouped = group_types(alloc, types, &[0], &Agg::Min(1))?;
+    named(rt, "grouped", grouped.as_slice())
+}
+
 // The types of a table's columns, and of what is made of them.
-fn types(rt: &impl Print, alloc: Global) -> Result<(), Failed> {
-    let types = table_types(alloc, &table(alloc, "t", "k n#")?)?;
-    let types = types.as_slice();
+fn types(rt: &impl Print, alloc: Global, types: &[ColType]) -> Result<(), Failed> {
     named(rt, "table", types)?;
-    named(
-        rt,
-        "picked",
-        picked_types(alloc, types, &[1, 0, 1])?.as_slice(),
-    )?;
-    named(
-        rt,
-        "grouped",
-        group_types(alloc, types, &[0], &Agg::Min(1))?.as_slice(),
-    )
+    picked(rt, alloc, types)?;
+    grouped(rt, alloc, types)
 }
 
 // The types of an input's columns.
@@ -117,6 +129,11 @@ fn input(rt: &impl Print, alloc: Global, inputs: &[Table]) -> Result<(), Failed>
 
 fn copied(alloc: Global, node: &Node) -> Result<Node, Failed> {
     Ok(node.copy(alloc)?)
+}
+
+// A copy of a tree in which nothing is wrong.
+fn copied_tree(alloc: Global) -> Result<Node, Failed> {
+    copied(alloc, &node(alloc, JOINED)?)
 }
 
 // The types of a tree's columns, in which nothing is wrong.
@@ -131,11 +148,17 @@ fn all(rt: &impl Print, alloc: Global, task: &TaskParts, trees: &[Tree]) -> Resu
     Ok(())
 }
 
-pub fn samples(rt: &impl Print, alloc: Global) -> Result<(), Failed> {
-    types(rt, alloc)?;
-    let task = parts(alloc, &SHAPE)?;
-    let inputs = task.inputs.as_slice();
+fn of_inputs(rt: &impl Print, alloc: Global, inputs: &[Table]) -> Result<(), Failed> {
     input(rt, alloc, inputs)?;
-    right(rt, alloc, inputs, &copied(alloc, &node(alloc, JOINED)?)?)?;
-    all(rt, alloc, &task, TREES)
+    right(rt, alloc, inputs, &copied_tree(alloc)?)
+}
+
+fn of_task(rt: &impl Print, alloc: Global, task: &TaskParts) -> Result<(), Failed> {
+    of_inputs(rt, alloc, task.inputs.as_slice())?;
+    all(rt, alloc, task, TREES)
+}
+
+pub fn samples(rt: &impl Print, alloc: Global) -> Result<(), Failed> {
+    types(rt, alloc, of_table(alloc)?.as_slice())?;
+    of_task(rt, alloc, &parts(alloc, &SHAPE)?)
 }
