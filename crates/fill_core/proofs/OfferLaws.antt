@@ -20,7 +20,7 @@ use Rattle.query_core.specs.declared.agg.Agg.{Agg}
 use Rattle.query_core.specs.declared.kinds.Pairing.{Pairing}
 use Rattle.query_core.specs.declared.kinds.Pairing.TheVariants.{Join, Left}
 use Rattle.fill_core.specs.Choices.{chosen, hole_choices, drops_some, every, with_alone, left_choice}
-use Rattle.fill_core.specs.Offers.{filled_by, filled_by_all, pair_candidates, Gathered, GivesNothing}
+use Rattle.fill_core.specs.Offers.{filled_by, filled_by_all, pair_candidates, Gathered, GivesNothing, WholeGivesNothing}
 use Rattle.fill_core.specs.declared.choice.Choice.{Choice}
 use Rattle.fill_core.proofs.MaskLaws.{masked_filter, masked_full, joined_is, left_joined_is, length_crossed, length_with_alone, length_padded}
 
@@ -204,13 +204,13 @@ same_pair gives kind wanted types own padding width lefts ls rights rs is_kind i
     (subst (λ t. GivesNothing gives t (pair_candidates wanted padding lefts rights)) is_types
     (subst (λ k. GivesNothing gives types (pair_candidates k padding lefts rights)) is_kind none))))
 
--- nothing is gathered of groups, where nothing is given of their rows
+-- nothing is gathered of groups, where nothing is given of all of their rows
 pub no_groups : {Item : Type 0} (gives : Filled → List Item) (held : List Item) (keys : List ℕ) (agg : Agg) (c : Filled) (types : List ColType)
-    → types ≡ group_types c.types keys agg → ((groups : List Row) → grouped keys agg c.rows ≡ Some groups → GivesNothing gives types groups) → held ≡ held ++ flat_map gives (filled_groups keys agg c)
+    → types ≡ group_types c.types keys agg → ((groups : List Row) → grouped keys agg c.rows ≡ Some groups → WholeGivesNothing gives types groups) → held ≡ held ++ flat_map gives (filled_groups keys agg c)
 no_groups gives held keys agg c types is_types none = by (grouped keys agg c.rows) refl
   where
     by : (o : Option (List Row)) → grouped keys agg c.rows ≡ o → held ≡ held ++ flat_map gives (filled_group keys agg c o)
     by None is = sym (append-nil held)
     by (Some groups) is =
-        let one = no_whole gives held types c.preds groups (none groups is) in
-        one ∙ ap (λ ts. let f : Filled = record { types = ts; preds = c.preds; rows = groups } in held ++ flat_map gives (f ∷ [])) is_types
+        let one : gives (record { types = group_types c.types keys agg; preds = c.preds; rows = groups }) ≡ [] = ap (λ ts. let f : Filled = record { types = ts; preds = c.preds; rows = groups } in gives f) (sym is_types) ∙ none groups is c.preds in
+        sym (append-nil held) ∙ ap (λ items. held ++ items) (sym (ap (λ items. items ++ []) one))

@@ -41,3 +41,7 @@ TooMuch bound weigh gives held fillings = Passes bound (sum_by weigh (held ++ fl
 -- no choice of some candidate rows, in columns of these types, gives anything
 abbrev pub GivesNothing : {Item : Type 0} → (Filled → List Item) → List ColType → List Row → Type 0
 GivesNothing gives types candidates = (preds : List Pred) (c : Choice) → length c.bits ≡ length candidates → gives (filled_by types preds candidates c) ≡ []
+
+-- all of some rows, in columns of these types, give nothing
+abbrev pub WholeGivesNothing : {Item : Type 0} → (Filled → List Item) → List ColType → List Row → Type 0
+WholeGivesNothing gives types rows = (preds : List Pred) → gives (record { types = types; preds = preds; rows = rows }) ≡ []

@@ -5,7 +5,7 @@ ghost use Rattle.query_core.specs.Filled.{Filled};
 ghost use Rattle.query_core.specs.Groups.{grouped};
 ghost use Rattle.query_core.specs.declared.agg.Agg as aggs;
 ghost use Rattle.fill_core.specs.declared.end.FillEnd.TheVariants as ends;
-ghost use Rattle.fill_core.specs.Offers.{filled_by_all, pair_candidates, Gathered, GivesNothing, TooMuch};
+ghost use Rattle.fill_core.specs.Offers.{filled_by_all, pair_candidates, Gathered, GivesNothing, WholeGivesNothing, TooMuch};
 
 use crate::end::FillEnd;
 use crate::offer::Offer;
@@ -49,10 +49,10 @@ pub trait Receiver {
         requires typed { typed self.now seen.now.types.now }
         ensures { result ≡ true → GivesNothing (gives self.now) seen.now.types.now (pair_candidates seen.now.kind (length seen.now.right.now) seen.now.lefts.now seen.now.rights.now) };
 
-    /// The same of the groups of some rows, whatever their aggregate is.
+    /// The same of all of the groups of some rows, whatever their aggregate is.
     fn is_shut_group(&self, seen: &GroupSeen<'_>) -> bool
         requires typed { typed self.now seen.now.types.now }
-        ensures { result ≡ true → (agg : aggs.Agg) (groups : List Row) → grouped seen.now.keys.now agg seen.now.rows.now ≡ Some groups → GivesNothing (gives self.now) seen.now.types.now groups };
+        ensures { result ≡ true → (agg : aggs.Agg) (groups : List Row) → grouped seen.now.keys.now agg seen.now.rows.now ≡ Some groups → WholeGivesNothing (gives self.now) seen.now.types.now groups };
 
     /// Looks at the candidate rows of a combination. None where no choice of them gives it anything.
     fn look(
