@@ -7,3 +7,4 @@ pub mod ReadLaws
 pub mod ReadingLaws
 pub mod RowCountLaws
 pub mod ShutLaws
+pub mod WholeLaws
