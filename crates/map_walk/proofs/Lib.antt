@@ -4,3 +4,4 @@ pub mod ReadingLaws
 pub mod RowCountLaws
 pub mod SupplyLaws
 pub mod WalkLaws
+pub mod WholeLaws

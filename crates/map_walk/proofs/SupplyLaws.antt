@@ -23,7 +23,7 @@ use Rattle.query_core.specs.declared.kinds.Pairing.TheVariants.{Join, Left}
 use Rattle.query_laws.proofs.GroupLaws.{row_of_key, group_row_is, grouped_in}
 use Rattle.map_walk.specs.Open.{some_has, serves, some_serves, all_served, is_open_by}
 use Rattle.map_walk.specs.Readings.{readings_by, has_reading_by}
-use Rattle.map_walk.specs.Supply.{serves_but_null, supply_of, column_supplies, supplies_by, supply_at, loosened, is_full, pair_supplies, group_supplies, some_full, all_full, opens, Tells}
+use Rattle.map_walk.specs.Supply.{serves_but_null, supply_of, column_told, each_told, supplies_by, supply_at, loosened, is_full, pair_supplies, group_supplies, some_full, all_full, opens, Tells}
 use Rattle.map_walk.specs.declared.supply.Supply.{Supply}
 use Rattle.map_walk.specs.declared.supply.Supply.TheVariants.{Short, ButNull, Full}
 use Rattle.map_walk.proofs.OpenLaws.{or_true, any_in, any_follow, both_true, types_next, closed, has_closed}
@@ -89,36 +89,40 @@ made_there f n i within =
 made_past : {A : Type 0} (f : ℕ → A) (n i : ℕ) → n ≤ i → slice_get (map f (range_with_len 0 n)) i ≡ None
 made_past f n i past = slice_get_past (map f (range_with_len 0 n)) i (omega (arith, past, length-map-range_with_len f 0 n))
 
-module _ {X : Type 0} (has : X → ℕ → Value → Bool) (width : ℕ) (candidates : List X) (table : TableData) where
-  -- what is told of two columns is true of them, or it is nothing
-  -- by place: of a column that there is, and of one that there isn't
-  pub told_there : (at place : ℕ) → at < width → place < length table.columns → supply_at (supplies_by has width candidates table) at place ≡ supply_of has candidates table.rows place at
+module _ (tell : ℕ → ℕ → Supply) (wanted width : ℕ) where
+  -- what is told of two columns, by place: of a body column that there is, and of one that there isn't
+  pub told_there : (at place : ℕ) → at < width → place < wanted → supply_at (each_told tell wanted width) at place ≡ tell place at
   told_there at place within below =
-      ap (λ o. unwrap_or (slice_get (unwrap_or o []) place) Full) (made_there (column_supplies has candidates table) width at within)
-      ∙ ap (λ o. unwrap_or o Full) (made_there (λ p. supply_of has candidates table.rows p at) (length table.columns) place below)
+      ap (λ o. unwrap_or (slice_get (unwrap_or o []) place) Full) (made_there (column_told tell wanted) width at within)
+      ∙ ap (λ o. unwrap_or o Full) (made_there (λ p. tell p at) wanted place below)
 
-  pub told_outside : (at place : ℕ) → width ≤ at → supply_at (supplies_by has width candidates table) at place ≡ Full
-  told_outside at place past = ap (λ o. unwrap_or (slice_get (unwrap_or o []) place) Full) (made_past (column_supplies has candidates table) width at past)
+  pub told_outside : (at place : ℕ) → width ≤ at → supply_at (each_told tell wanted width) at place ≡ Full
+  told_outside at place past = ap (λ o. unwrap_or (slice_get (unwrap_or o []) place) Full) (made_past (column_told tell wanted) width at past)
 
-  pub told_past : (at place : ℕ) → length table.columns ≤ place → supply_at (supplies_by has width candidates table) at place ≡ Full
+  pub told_past : (at place : ℕ) → wanted ≤ place → supply_at (each_told tell wanted width) at place ≡ Full
   told_past at place past =
       elim (cases_lt at width) [
         | inl within ↦
-            ap (λ o. unwrap_or (slice_get (unwrap_or o []) place) Full) (made_there (column_supplies has candidates table) width at within)
-            ∙ ap (λ o. unwrap_or o Full) (made_past (λ p. supply_of has candidates table.rows p at) (length table.columns) place past)
+            ap (λ o. unwrap_or (slice_get (unwrap_or o []) place) Full) (made_there (column_told tell wanted) width at within)
+            ∙ ap (λ o. unwrap_or o Full) (made_past (λ p. tell p at) wanted place past)
         | inr outside ↦ told_outside at place outside
       ]
 
-  told_at : (at place : ℕ) → (supply_at (supplies_by has width candidates table) at place ≡ Full) ⊎ (supply_at (supplies_by has width candidates table) at place ≡ supply_of has candidates table.rows place at)
+  pub told_at : (at place : ℕ) → (supply_at (each_told tell wanted width) at place ≡ Full) ⊎ (supply_at (each_told tell wanted width) at place ≡ tell place at)
   told_at at place =
       elim (cases_lt at width) [
-        | inl within ↦ elim (cases_lt place (length table.columns)) [
+        | inl within ↦ elim (cases_lt place wanted) [
           | inl below ↦ inr (told_there at place within below)
           | inr past ↦ inl (told_past at place past)
         ]
         | inr outside ↦ inl (told_outside at place outside)
       ]
 
+  -- it is told of as many columns
+  pub told_wide : length (each_told tell wanted width) ≡ width
+  told_wide = length-map-range_with_len (column_told tell wanted) 0 width
+
+module _ {X : Type 0} (has : X → ℕ → Value → Bool) (width : ℕ) (candidates : List X) (table : TableData) where
   loose_of : (at place : ℕ) (b : Bool) → serves_but_null has candidates table.rows place at ≡ true
       → loosened (if b then Full else (if serves_but_null has candidates table.rows place at then ButNull else Short)) ≡ Full
   loose_of at place true e = refl
@@ -127,11 +131,11 @@ module _ {X : Type 0} (has : X → ℕ → Value → Bool) (width : ℕ) (candid
   -- what is told of each of a number of columns is true
   pub supplies_tell : Tells has candidates table.rows (supplies_by has width candidates table)
   supplies_tell at place = (
-    λ e. elim (told_at at place) [
+    λ e. elim (told_at (supply_of has candidates table.rows) (length table.columns) width at place) [
       | inl full ↦ full
       | inr is ↦ is ∙ ap (λ (b : Bool). if b then Full else (if serves_but_null has candidates table.rows place at then ButNull else Short)) e
     ],
-    λ e. elim (told_at at place) [
+    λ e. elim (told_at (supply_of has candidates table.rows) (length table.columns) width at place) [
       | inl full ↦ ap loosened full
       | inr is ↦ ap loosened is ∙ loose_of at place (serves has candidates table.rows place at) e
     ],
@@ -139,7 +143,7 @@ module _ {X : Type 0} (has : X → ℕ → Value → Bool) (width : ℕ) (candid
 
   -- it is told of as many columns
   pub supplies_wide : length (supplies_by has width candidates table) ≡ width
-  supplies_wide = length-map-range_with_len (column_supplies has candidates table) 0 width
+  supplies_wide = told_wide (supply_of has candidates table.rows) (length table.columns) width
 
 -- ---- what is told of parts
 
@@ -214,7 +218,7 @@ module _ {A : Type 0} (cell_has : A → Value → Bool) (null : A) where
   has_there x y ys at at' v i same_cell e = any_in (λ z. cells_have z at' v) y ys i (ap (λ c. cell_has c v) (sym same_cell) ∙ e)
 
   module _ (output : List Row) where
-    serves_from : (xs ys : List (List A)) (at at' place : ℕ) → AreFrom xs at ys at' → serves cells_have xs output place at ≡ true → serves cells_have ys output place at' ≡ true
+    pub serves_from : (xs ys : List (List A)) (at at' place : ℕ) → AreFrom xs at ys at' → serves cells_have xs output place at ≡ true → serves cells_have ys output place at' ≡ true
     serves_from xs ys at at' place from all =
         all_follow (λ row. some_has cells_have xs at row place) (λ row. some_has cells_have ys at' row place) output
         (λ row some. any_gives (λ x. cells_have x at (value_at row place)) (some_has cells_have ys at' row place) xs

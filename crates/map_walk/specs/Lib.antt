@@ -4,3 +4,4 @@ pub mod Readings
 pub mod Supply
 pub mod Targets
 pub mod Walk
+pub mod Wholes

@@ -21,13 +21,21 @@ serves_but_null has candidates output place at = list_all (λ row. is_null (valu
 abbrev pub supply_of : {X : Type 0} → (X → ℕ → Value → Bool) → List X → List Row → ℕ → ℕ → Supply
 supply_of has candidates output place at = if serves has candidates output place at then Full else (if serves_but_null has candidates output place at then ButNull else Short)
 
+-- what is told of a body column for each of so many output columns
+abbrev pub column_told : (ℕ → ℕ → Supply) → ℕ → ℕ → List Supply
+column_told tell wanted at = map (λ place. tell place at) (range_with_len 0 wanted)
+
+-- what is told of each of so many body columns
+abbrev pub each_told : (ℕ → ℕ → Supply) → ℕ → ℕ → List (List Supply)
+each_told tell wanted width = map (column_told tell wanted) (range_with_len 0 width)
+
 -- how much a body column has of each column of a table
 abbrev pub column_supplies : {X : Type 0} → (X → ℕ → Value → Bool) → List X → TableData → ℕ → List Supply
-column_supplies has candidates table at = map (λ place. supply_of has candidates table.rows place at) (range_with_len 0 (length table.columns))
+column_supplies has candidates table at = column_told (supply_of has candidates table.rows) (length table.columns) at
 
 -- how much each of so many body columns has of each column of a table
 abbrev pub supplies_by : {X : Type 0} → (X → ℕ → Value → Bool) → ℕ → List X → TableData → List (List Supply)
-supplies_by has width candidates table = map (column_supplies has candidates table) (range_with_len 0 width)
+supplies_by has width candidates table = each_told (supply_of has candidates table.rows) (length table.columns) width
 
 -- how much the body column of the number `at` has of the output column of the number `place`; where nothing is told, it may have all
 abbrev pub supply_at : List (List Supply) → ℕ → ℕ → Supply

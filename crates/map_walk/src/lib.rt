@@ -10,6 +10,7 @@ mod reading;
 mod supply;
 mod target;
 mod walk;
+mod whole;
 
 pub use candidate::Candidate;
 pub use open::is_open;

@@ -1,10 +1,12 @@
 ghost use Rattle.std.specs.Prelude.{◌≡◌, List, length};
 ghost use Rattle.table_core.specs.Rows.{types_of};
 ghost use Rattle.map_walk.specs.Supply.{supplies_by, supply_at, some_full, pair_supplies, group_supplies, opens};
+ghost use Rattle.map_walk.specs.Wholes.{wholes_by};
 ghost use Rattle.map_walk.specs.declared.supply.Supply as told;
 
 use crate::candidate::Candidate;
 use crate::supply::{Supply, supply_of};
+use crate::whole::whole_supply;
 use query_core::{Pairing, same_type};
 use sqlite_items::Items;
 use table_core::Table;
@@ -95,6 +97,32 @@ impl<C: Candidate> Part for Seen<'_, C> {
             return Supply::Full;
         }
         supply_of(self.part.rows, self.output.tuples(), place, at)
+    }
+}
+
+// A part that is looked at where it stands, and has to have no other values.
+#[derive(Drop)]
+struct SeenWhole<'a, C> {
+    part: &'a Standing<'a, C>,
+    output: &'a Table,
+}
+
+impl<C: Candidate> Part for SeenWhole<'_, C> {
+    ghost listed = { λ s. wholes_by C.has s.part.now.width s.part.now.rows.now s.output.now };
+
+    #[tactic(auto, using(crate::proofs::SupplyLaws::told_wide))]
+    fn width(&self) -> usize {
+        self.part.width
+    }
+
+    fn supply(&self, at: usize, place: usize) -> Supply {
+        if self.part.width <= at {
+            return Supply::Full;
+        }
+        if self.output.columns().len() <= place {
+            return Supply::Full;
+        }
+        whole_supply(self.part.rows, self.output.tuples(), place, at)
     }
 }
 
@@ -239,15 +267,16 @@ pub fn standing_pair_opens<C: Candidate>(
     all_full(&paired, types, output)
 }
 
-/// The same of a group by key columns, told by the candidates of its part as they stand.
+/// Whether each column of an output may be a column of its type of all of a group's rows, told by the candidates of the group's part as
+/// they stand: a key column is asked whether it has all of the values and no others, and of the aggregate's column nothing is told.
 pub fn standing_group_opens<C: Candidate>(
     keys: &[usize],
     part: &Standing<'_, C>,
     types: &[ColType],
     output: &Table,
 ) -> bool
-    ensures { result ≡ opens types.now (group_supplies keys.now (supplies_by C.has part.now.width part.now.rows.now output.now)) (types_of output.now) }
+    ensures { result ≡ opens types.now (group_supplies keys.now (wholes_by C.has part.now.width part.now.rows.now output.now)) (types_of output.now) }
 {
-    let child = Seen { part, output };
+    let child = SeenWhole { part, output };
     all_full(&Grouped { keys, child }, types, output)
 }

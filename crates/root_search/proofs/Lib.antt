@@ -8,3 +8,4 @@ pub mod ReadingLaws
 pub mod RowCountLaws
 pub mod ShutLaws
 pub mod WantedLaws
+pub mod WholeLaws
