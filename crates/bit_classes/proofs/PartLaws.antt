@@ -6,7 +6,7 @@ use Rattle.bit_classes.specs.declared.class.Class.{Class}
 use Rattle.bit_classes.specs.declared.class.ClassEnd.{ClassEnd}
 use Rattle.bit_classes.specs.declared.join.Join.{Join}
 use Rattle.bit_classes.specs.declared.join.Join.TheVariants.{And, Or}
-use Rattle.bit_classes.specs.Walk.{Walk, Sees, if_let, sifted, numbered, told_pairs, told_triples, told_under, classes_under, told_two, told_three, told_more}
+use Rattle.bit_classes.specs.Walk.{Walk, Sees, if_passing, sifted, numbered, told_pairs, told_triples, told_under, classes_under, told_two, told_three, told_more}
 use Rattle.bit_classes.proofs.WalkLaws.{sees_then, sees_stopped, sees_same}
 use Rattle.bit_classes.proofs.SplitLaws.{numbered_parts, length-told_later, length-told_under}
 
@@ -35,8 +35,8 @@ pub length-told_two : (may : Join → List Bool → Bool) (rows : List (Option (
 length-told_two may rows =
     let ands = sifted (may And) rows in
     let ors = sifted (may Or) rows in
-    let some : length (told_pairs And ands) ≡ pair_count (length rows) = length-told_pairs And ands ∙ ap pair_count (length-map rows (if_let (may And))) in
-    let more : length (told_pairs Or ors) ≡ pair_count (length rows) = length-told_pairs Or ors ∙ ap pair_count (length-map rows (if_let (may Or))) in
+    let some : length (told_pairs And ands) ≡ pair_count (length rows) = length-told_pairs And ands ∙ ap pair_count (length-map rows (if_passing (may And))) in
+    let more : length (told_pairs Or ors) ≡ pair_count (length rows) = length-told_pairs Or ors ∙ ap pair_count (length-map rows (if_passing (may Or))) in
     omega (arith, length-append (told_pairs And ands) (told_pairs Or ors), some, more)
 
 -- the vectors of two atoms or more where the bound is two or more, and where it is three or more

@@ -10,7 +10,7 @@ use Rattle.bit_classes.specs.declared.join.Join.{Join}
 use Rattle.bit_classes.specs.declared.join.Join.TheVariants.{And, Or}
 use Rattle.bit_classes.specs.declared.class.Class.{Class}
 use Rattle.bit_classes.specs.Vectors.{combined}
-use Rattle.bit_classes.specs.Walk.{HasWidth, SameWidth, combined_told, combined_let, if_let, sifted, is_known, with_vector, numbered, new_vectors, if_new, with_told, told_later, new_pairs, told_under, classes_under, told_triples}
+use Rattle.bit_classes.specs.Walk.{HasWidth, SameWidth, combined_told, combined_passing, if_passing, sifted, is_known, with_vector, numbered, new_vectors, if_new, with_told, told_later, new_pairs, told_under, classes_under, told_triples}
 
 pub add_more : (n i : ℕ) → n + i + 1 ≡ n + (i + 1)
 add_more n i = omega arith
@@ -92,16 +92,16 @@ length-told_later join (b ∷ bs) (x ∷ xs) same =
     length-append (map f xs) (told_later join bs xs) ∙ rw (length-map xs f, length-told_later join bs xs (omega (arith, same))) refl
 
 -- a first vector combined with each of what is left: with the first of these, and then the rest
-pub new_pairs_split : (test : List Bool → Bool) (join : Join) (classes after : List Class) (first : Option (List Bool)) (xs : List (Option (List Bool))) (i : ℕ) (x : Option (List Bool)) → i < length xs → x ≡ get_or xs i x → after ≡ with_told classes (combined_let test join first x)
-    → new_pairs test join classes first (drop i xs) ≡ if_new classes (combined_let test join first x) ∷ new_pairs test join after first (drop (i + 1) xs)
+pub new_pairs_split : (test : List Bool → Bool) (join : Join) (classes after : List Class) (first : Option (List Bool)) (xs : List (Option (List Bool))) (i : ℕ) (x : Option (List Bool)) → i < length xs → x ≡ get_or xs i x → after ≡ with_told classes (combined_passing test join first x)
+    → new_pairs test join classes first (drop i xs) ≡ if_new classes (combined_passing test join first x) ∷ new_pairs test join after first (drop (i + 1) xs)
 new_pairs_split test join classes after first xs i x below is seen =
     let rest = drop (i + 1) xs in
-    ap (new_pairs test join classes first) (drop_more xs i x below ∙ ap (λ y. y ∷ rest) (sym is)) ∙ ap (λ cs. if_new classes (combined_let test join first x) ∷ new_pairs test join cs first rest) (sym seen)
+    ap (new_pairs test join classes first) (drop_more xs i x below ∙ ap (λ y. y ∷ rest) (sym is)) ∙ ap (λ cs. if_new classes (combined_passing test join first x) ∷ new_pairs test join cs first rest) (sym seen)
 
 pub new_pairs_end : (test : List Bool → Bool) (join : Join) (classes : List Class) (first : Option (List Bool)) (xs : List (Option (List Bool))) (i : ℕ) → length xs ≤ i → new_pairs test join classes first (drop i xs) ≡ []
 new_pairs_end test join classes first xs i past = ap (new_pairs test join classes first) (drop_all i xs past)
 
-pub classes_split : (test : List Bool → Bool) (join : Join) (classes after : List Class) (first : Option (List Bool)) (xs : List (Option (List Bool))) (i : ℕ) (x : Option (List Bool)) → i < length xs → x ≡ get_or xs i x → after ≡ with_told classes (combined_let test join first x)
+pub classes_split : (test : List Bool → Bool) (join : Join) (classes after : List Class) (first : Option (List Bool)) (xs : List (Option (List Bool))) (i : ℕ) (x : Option (List Bool)) → i < length xs → x ≡ get_or xs i x → after ≡ with_told classes (combined_passing test join first x)
     → classes_under test join classes first (drop i xs) ≡ classes_under test join after first (drop (i + 1) xs)
 classes_split test join classes after first xs i x below is seen =
     let rest = drop (i + 1) xs in
@@ -112,7 +112,7 @@ classes_end test join classes first xs i past = ap (classes_under test join clas
 
 pub length-new_pairs : (test : List Bool → Bool) (join : Join) (classes : List Class) (first : Option (List Bool)) (xs : List (Option (List Bool))) → length (new_pairs test join classes first xs) ≡ length xs
 length-new_pairs test join classes first [] = refl
-length-new_pairs test join classes first (x ∷ xs) = ap suc (length-new_pairs test join (with_told classes (combined_let test join first x)) first xs)
+length-new_pairs test join classes first (x ∷ xs) = ap suc (length-new_pairs test join (with_told classes (combined_passing test join first x)) first xs)
 
 pub length-told_under : (test : List Bool → Bool) (join : Join) (classes : List Class) (first : Option (List Bool)) (xs : List (Option (List Bool))) → length (told_under test join classes first xs) ≡ pair_count (length xs)
 length-told_under test join classes first xs = length-told_later join (new_pairs test join classes first xs) xs (length-new_pairs test join classes first xs)
@@ -149,23 +149,23 @@ kept_width width v true true has = tt
 kept_width width v true false has = has
 kept_width width v false c has = tt
 
-pub HasWidth-let : (width : ℕ) (test : List Bool → Bool) (told : Option (List Bool)) → HasWidth width told → HasWidth width (if_let test told)
-HasWidth-let width test None has = tt
-HasWidth-let width test (Some v) has = kept_width width v (test v) false has
+pub HasWidth-passing : (width : ℕ) (test : List Bool → Bool) (told : Option (List Bool)) → HasWidth width told → HasWidth width (if_passing test told)
+HasWidth-passing width test None has = tt
+HasWidth-passing width test (Some v) has = kept_width width v (test v) false has
 
 pub HasWidth-new : (width : ℕ) (classes : List Class) (told : Option (List Bool)) → HasWidth width told → HasWidth width (if_new classes told)
 HasWidth-new width classes None has = tt
 HasWidth-new width classes (Some v) has = kept_width width v true (is_known classes v) has
 
 pub sifted_widths : (width : ℕ) (test : List Bool → Bool) (rows : List (Option (List Bool))) → All (HasWidth width) rows → All (HasWidth width) (sifted test rows)
-sifted_widths width test rows wide = All-map (HasWidth width) (if_let test) rows (All-weaker (HasWidth width) (λ u. HasWidth width (if_let test u)) (HasWidth-let width test) rows wide)
+sifted_widths width test rows wide = All-map (HasWidth width) (if_passing test) rows (All-weaker (HasWidth width) (λ u. HasWidth width (if_passing test u)) (HasWidth-passing width test) rows wide)
 
 pub new_pairs_widths : (test : List Bool → Bool) (join : Join) (width : ℕ) (classes : List Class) (first : Option (List Bool)) (rows : List (Option (List Bool))) → HasWidth width first → All (HasWidth width) rows
     → All (HasWidth width) (new_pairs test join classes first rows)
 new_pairs_widths test join width classes first [] is wide = All-nil (HasWidth width)
 new_pairs_widths test join width classes first (m ∷ ms) is wide =
-    let both = combined_let test join first m in
-    let has = HasWidth-new width classes both (HasWidth-let width test (combined_told join first m) (HasWidth-join join width first m is (All-head (HasWidth width) m ms wide))) in
+    let both = combined_passing test join first m in
+    let has = HasWidth-new width classes both (HasWidth-passing width test (combined_told join first m) (HasWidth-join join width first m is (All-head (HasWidth width) m ms wide))) in
     let after = with_told classes both in
     All-cons (HasWidth width) (if_new classes both) (new_pairs test join after first ms) has (new_pairs_widths test join width after first ms is (All-tail (HasWidth width) m ms wide))
 

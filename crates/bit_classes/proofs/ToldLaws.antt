@@ -10,7 +10,7 @@ use Rattle.bit_classes.specs.declared.class.Class.{Class}
 use Rattle.bit_classes.specs.declared.join.Join.{Join}
 use Rattle.bit_classes.specs.declared.join.Join.TheVariants.{And, Or}
 use Rattle.bit_classes.specs.Vectors.{combined, combined_pairs, combined_triples, more_vectors}
-use Rattle.bit_classes.specs.Walk.{HasWidth, is_known, with_vector, new_vectors, combined_told, if_let, sifted, told_pairs, told_triples, told_two, told_three, told_more}
+use Rattle.bit_classes.specs.Walk.{HasWidth, is_known, with_vector, new_vectors, combined_told, if_passing, sifted, told_pairs, told_triples, told_two, told_three, told_more}
 use Rattle.bit_classes.proofs.ThinLaws.{Thin, thin_wider, thin_same, thin_mapped, thin_append, thin_length, pairs_first, thin_pairs, in_front, in_back, in_mapped, two_in}
 use Rattle.bit_classes.proofs.KnownLaws.{known_before}
 use Rattle.bit_classes.proofs.TripleLaws.{triples_thin}
@@ -58,12 +58,12 @@ off_unwanted : (may : Join → List Bool → Bool) (join : Join) (w : List Bool)
 off_unwanted may And w off = rw off refl
 off_unwanted may Or w off = rw off (and_false (may And w))
 
--- what a test lets is told still, and what it doesn't let is known
-let_thin : (test : List Bool → Bool) (K : List Bool → Type 0) (us : List (Option (List Bool))) (vs : List (List Bool)) → ((v : List Bool) → In v vs → test v ≡ false → K v) → Thin K us vs → Thin K (sifted test us) vs
-let_thin test K us vs known t =
-    let each : (v : List Bool) → In v vs → (if_let test (Some v) ≡ Some v) ⊎ ((if_let test (Some v) ≡ None) × K v) = λ v i.
-    elim (cases_Bool (test v)) [ inl lets ↦ inl (rw lets refl) | inr not ↦ inr (rw not refl, known v i not) ] in
-    thin_mapped (if_let test) refl K us vs each t
+-- what passes a test is told still, and what doesn't is known
+passing_thin : (test : List Bool → Bool) (K : List Bool → Type 0) (us : List (Option (List Bool))) (vs : List (List Bool)) → ((v : List Bool) → In v vs → test v ≡ false → K v) → Thin K us vs → Thin K (sifted test us) vs
+passing_thin test K us vs known t =
+    let each : (v : List Bool) → In v vs → (if_passing test (Some v) ≡ Some v) ⊎ ((if_passing test (Some v) ≡ None) × K v) = λ v i.
+    elim (cases_Bool (test v)) [ inl passes ↦ inl (rw passes refl) | inr not ↦ inr (rw not refl, known v i not) ] in
+    thin_mapped (if_passing test) refl K us vs each t
 
 module _ (width : ℕ) (may : Join → List Bool → Bool) (K : List Bool → Type 0) (ms : List (Option (List Bool))) (rows : List (List Bool))
     (sieve : IsSieve width may) (thin : Thin (λ w. w ≡ replicate width true) ms rows) (wide : (w : List Bool) → (w ≡ replicate width true) ⊎ In w rows → length w ≡ width)
@@ -92,8 +92,8 @@ module _ (width : ℕ) (may : Join → List Bool → Bool) (K : List Bool → Ty
   off_joined : (join : Join) (y z : List Bool) → length y ≡ width → length z ≡ width → (may join y ≡ false) ⊎ (may join z ≡ false) → may join (combined join y z) ≡ false
   off_joined join y z wide_y wide_z off =
       elim (cases_Bool (may join (combined join y z))) [
-        | inl lets ↦
-            let both = sieve join y z wide_y wide_z lets in
+        | inl passes ↦
+            let both = sieve join y z wide_y wide_z passes in
             elim off [ inl a ↦ absurd (false≢true (sym a ∙ both.0)) | inr b ↦ absurd (false≢true (sym b ∙ both.1)) ]
         | inr not ↦ not
       ]
@@ -113,7 +113,7 @@ module _ (width : ℕ) (may : Join → List Bool → Bool) (K : List Bool → Ty
   sifted_thin : (join : Join) → Thin (Before join) (sifted (may join) ms) rows
   sifted_thin join =
       let wider = thin_wider (λ w. w ≡ full) (Before join) (λ w e. inl e) ms rows thin in
-      let_thin (may join) (Before join) ms rows (λ v i not. inr (wide v (inr i), not)) wider
+      passing_thin (may join) (Before join) ms rows (λ v i not. inr (wide v (inr i), not)) wider
 
   -- ---- two rows
 

@@ -10,7 +10,7 @@ use Rattle.predicate_core.proofs.OnceLists.{In, in_same, in_pairs}
 use Rattle.bit_classes.specs.declared.class.Class.{Class}
 use Rattle.bit_classes.specs.declared.join.Join.{Join}
 use Rattle.bit_classes.specs.Vectors.{combined, combined_triples}
-use Rattle.bit_classes.specs.Walk.{is_known, if_let, combined_told, combined_let, if_new, with_told, told_under, classes_under, told_triples}
+use Rattle.bit_classes.specs.Walk.{is_known, if_passing, combined_told, combined_passing, if_new, with_told, told_under, classes_under, told_triples}
 use Rattle.bit_classes.proofs.KnownLaws.{known_before}
 use Rattle.bit_classes.proofs.JoinLaws.{joined_turned, joined_grouped, joined_own}
 use Rattle.bit_classes.proofs.SplitLaws.{map-map}
@@ -19,13 +19,13 @@ use Rattle.bit_classes.proofs.ThinLaws.{Thin, thin_append, thin_length, thin_sam
 abbrev Vector : Type 0
 Vector = List Bool
 
--- what a test lets is told
-let_told : (test : Vector → Bool) (told : Option Vector) (c : Vector) → if_let test told ≡ Some c → told ≡ Some c
-let_told test None c e = absurd (none-some c e)
-let_told test (Some v) c e =
+-- what passes a test is told
+passing_told : (test : Vector → Bool) (told : Option Vector) (c : Vector) → if_passing test told ≡ Some c → told ≡ Some c
+passing_told test None c e = absurd (none-some c e)
+passing_told test (Some v) c e =
     elim (cases_Bool (test v)) [
-      | inl lets ↦ let kept : if_let test (Some v) ≡ Some v = rw lets refl in sym kept ∙ e
-      | inr not ↦ let lost : if_let test (Some v) ≡ None = rw not refl in absurd (none-some c (sym lost ∙ e))
+      | inl passes ↦ let kept : if_passing test (Some v) ≡ Some v = rw passes refl in sym kept ∙ e
+      | inr not ↦ let lost : if_passing test (Some v) ≡ None = rw not refl in absurd (none-some c (sym lost ∙ e))
     ]
 
 module _ (test : Vector → Bool) (join : Join) where
@@ -93,9 +93,9 @@ module _ (test : Vector → Bool) (join : Join) where
       → (is_known classes c ≡ true) ⊎ ((u : Option Vector) × In u ms × (combined_told join first u ≡ Some c))
   class_from classes first [] c known = inl known
   class_from classes first (m ∷ ms) c known =
-      let told = combined_let test join first m in
+      let told = combined_passing test join first m in
       elim (class_from (with_told classes told) first ms c known) [
-        | inl a ↦ elim (class_before classes told c a) [ inl b ↦ inl b | inr e ↦ inr (m, inl refl, let_told test (combined_told join first m) c e) ]
+        | inl a ↦ elim (class_before classes told c a) [ inl b ↦ inl b | inr e ↦ inr (m, inl refl, passing_told test (combined_told join first m) c e) ]
         | inr u ↦ inr (u.0, inr u.1, u.2)
       ]
 
@@ -125,30 +125,30 @@ module _ (test : Vector → Bool) (join : Join) where
   row_thin : (x y : Vector) (B K : Vector → Type 0) (classes : List Class) (m : Option Vector) (ms : List (Option Vector)) (ys : List Vector)
       → (m ≡ Some y) ⊎ ((m ≡ None) × B y) → Thin (λ w. B w ⊎ (w ≡ y)) ms ys → K (combined join x y) → ((w z : Vector) → B w → In z (y ∷ ys) → K (combined join (combined join x w) z)) → Gives classes K (y ∷ ys)
       → (test (combined join x y) ≡ false → (z : Vector) → In z ys → K (combined join (combined join x y) z))
-      → Thin K (map (combined_told join (if_new classes (combined_let test join (Some x) m))) ms) (map (combined join (combined join x y)) ys)
+      → Thin K (map (combined_told join (if_new classes (combined_passing test join (Some x) m))) ms) (map (combined join (combined join x y)) ys)
   row_thin x y B K classes m ms ys (inr none) rest own before gives lost =
-      let both : Option Vector = combined_let test join (Some x) m in
-      let nothing : if_new classes both ≡ None = ap (λ u. if_new classes (combined_let test join (Some x) u)) none.0 in
+      let both : Option Vector = combined_passing test join (Some x) m in
+      let nothing : if_new classes both ≡ None = ap (λ u. if_new classes (combined_passing test join (Some x) u)) none.0 in
       thin_none (combined_told join (if_new classes both)) (combined join (combined join x y)) (λ u. ap (λ w. combined_told join w u) nothing) K ms ys (thin_length (λ w. B w ⊎ (w ≡ y)) ms ys rest) (λ z i. before y z none.1 (inr i))
   row_thin x y B K classes m ms ys (inl some) rest own before gives lost =
       let v = combined join x y in
-      let both : Option Vector = combined_let test join (Some x) m in
+      let both : Option Vector = combined_passing test join (Some x) m in
       let nothing_thin : if_new classes both ≡ None → ((z : Vector) → In z ys → K (combined join v z)) → Thin K (map (combined_told join (if_new classes both)) ms) (map (combined join v) ys) = λ nothing each.
       thin_none (combined_told join (if_new classes both)) (combined join v) (λ u. ap (λ w. combined_told join w u) nothing) K ms ys (thin_length (λ w. B w ⊎ (w ≡ y)) ms ys rest) each in
-      let both_is : both ≡ if_let test (Some v) = ap (combined_let test join (Some x)) some in
+      let both_is : both ≡ if_passing test (Some v) = ap (combined_passing test join (Some x)) some in
       elim (cases_Bool (test v)) [
         | inr not ↦
-            let none : if_let test (Some v) ≡ None = rw not refl in
+            let none : if_passing test (Some v) ≡ None = rw not refl in
             nothing_thin (ap (if_new classes) (both_is ∙ none)) (lost not)
-        | inl lets ↦
-            let let_v : if_let test (Some v) ≡ Some v = rw lets refl in
+        | inl passes ↦
+            let passing_v : if_passing test (Some v) ≡ Some v = rw passes refl in
             elim (cases_Bool (is_known classes v)) [
               | inl old ↦
                   let known : if_new classes (Some v) ≡ None = rw old refl in
-                  nothing_thin (ap (if_new classes) (both_is ∙ let_v) ∙ known) (λ z i. gives v old z (inr i))
+                  nothing_thin (ap (if_new classes) (both_is ∙ passing_v) ∙ known) (λ z i. gives v old z (inr i))
               | inr new ↦
                   let unknown : if_new classes (Some v) ≡ Some v = rw new refl in
-                  let told : if_new classes both ≡ Some v = ap (if_new classes) (both_is ∙ let_v) ∙ unknown in
+                  let told : if_new classes both ≡ Some v = ap (if_new classes) (both_is ∙ passing_v) ∙ unknown in
                   let with_known : (w : Vector) → B w ⊎ (w ≡ y) → K (combined join v w) = λ w either. elim either [
                     | inl b ↦ subst K (last_turned x w y) (before w y b (inl refl))
                     | inr e ↦ subst (λ u. K (combined join v u)) (sym e) (subst K (sym (last_own x y)) own)
@@ -176,7 +176,7 @@ module _ (test : Vector → Bool) (join : Join) where
       let row = map (combined join v) ys in
       let B' : Vector → Type 0 = λ w. B w ⊎ (w ≡ y) in
       let K' : Vector → Type 0 = λ w. K w ⊎ In w row in
-      let told = combined_let test join (Some x) m in
+      let told = combined_passing test join (Some x) m in
       let first = row_thin x y B K classes m ms ys t.0 t.1 (own y (inl refl)) before gives (λ not z i. lost y z (inl refl) (inr i) not) in
       let in_row : (z : Vector) → In z ys → K' (combined join v z) = λ z i. inr (in_mapped (combined join v) z ys i) in
       let before' : (w z : Vector) → B w ⊎ (w ≡ y) → In z ys → K' (combined join (combined join x w) z) = λ w z either i. elim either [
@@ -185,7 +185,7 @@ module _ (test : Vector → Bool) (join : Join) where
       ] in
       let gives' : Gives (with_told classes told) K' ys = λ c known z i. elim (class_before classes told c known) [
         | inl a ↦ inl (gives c a z (inr i))
-        | inr e ↦ subst (λ u. K' (combined join u z)) (sym (told_joined x y c B m t.0 (let_told test (combined_told join (Some x) m) c e))) (in_row z i)
+        | inr e ↦ subst (λ u. K' (combined join u z)) (sym (told_joined x y c B m t.0 (passing_told test (combined_told join (Some x) m) c e))) (in_row z i)
       ] in
       thin_same K _ _ _ _ refl (split_under x y ys)
       (thin_append K _ row _ (map (λ p. combined join (combined join x p.0) p.1) (pairs ys)) first

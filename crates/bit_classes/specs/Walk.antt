@@ -63,14 +63,14 @@ abbrev pub combined_told : Join → Option (List Bool) → Option (List Bool) �
 combined_told join None b = None
 combined_told join (Some x) b = option_map (combined join x) b
 
--- a vector that is told, where a test lets it
-abbrev pub if_let : (List Bool → Bool) → Option (List Bool) → Option (List Bool)
-if_let test None = None
-if_let test (Some v) = if test v then Some v else None
+-- a vector that is told, if it passes a test
+abbrev pub if_passing : (List Bool → Bool) → Option (List Bool) → Option (List Bool)
+if_passing test None = None
+if_passing test (Some v) = if test v then Some v else None
 
--- the vectors of a list that a test lets
+-- the vectors of a list that pass a test
 abbrev pub sifted : (List Bool → Bool) → List (Option (List Bool)) → List (Option (List Bool))
-sifted test rows = map (if_let test) rows
+sifted test rows = map (if_passing test) rows
 
 -- each vector of a first list combined with those that stand later in a second
 abbrev pub told_later : Join → List (Option (List Bool)) → List (Option (List Bool)) → List (Option (List Bool))
@@ -92,26 +92,26 @@ abbrev pub with_told : List Class → Option (List Bool) → List Class
 with_told classes None = classes
 with_told classes (Some v) = with_vector classes (0, v)
 
--- two vectors combined, where both are told and a test lets what they give
-abbrev pub combined_let : (List Bool → Bool) → Join → Option (List Bool) → Option (List Bool) → Option (List Bool)
-combined_let test join a b = if_let test (combined_told join a b)
+-- two vectors combined, where both are told and what they give passes a test
+abbrev pub combined_passing : (List Bool → Bool) → Join → Option (List Bool) → Option (List Bool) → Option (List Bool)
+combined_passing test join a b = if_passing test (combined_told join a b)
 
--- a first vector combined with each of a list in turn, where a test lets it and it is new
+-- a first vector combined with each of a list in turn, where this passes a test and is new
 abbrev pub new_pairs : (List Bool → Bool) → Join → List Class → Option (List Bool) → List (Option (List Bool)) → List (Option (List Bool))
 new_pairs test join pair_classes first [] = []
 new_pairs test join pair_classes first (m ∷ ms) =
-    if_new pair_classes (combined_let test join first m) ∷ new_pairs test join (with_told pair_classes (combined_let test join first m)) first ms
+    if_new pair_classes (combined_passing test join first m) ∷ new_pairs test join (with_told pair_classes (combined_passing test join first m)) first ms
 
--- the classes after a first vector combined with each of a list, where a test lets it
+-- the classes after a first vector combined with each of a list, where this passes a test
 abbrev pub classes_under : (List Bool → Bool) → Join → List Class → Option (List Bool) → List (Option (List Bool)) → List Class
 classes_under test join pair_classes first [] = pair_classes
-classes_under test join pair_classes first (m ∷ ms) = classes_under test join (with_told pair_classes (combined_let test join first m)) first ms
+classes_under test join pair_classes first (m ∷ ms) = classes_under test join (with_told pair_classes (combined_passing test join first m)) first ms
 
--- a first vector combined with each two of a list, where a test lets it with the earlier of the two, and this is new
+-- a first vector combined with each two of a list, where it with the earlier of the two passes a test and is new
 abbrev pub told_under : (List Bool → Bool) → Join → List Class → Option (List Bool) → List (Option (List Bool)) → List (Option (List Bool))
 told_under test join pair_classes first ms = told_later join (new_pairs test join pair_classes first ms) ms
 
--- each three vectors of a list combined, where a test lets the first two of them, and they give a new vector
+-- each three vectors of a list combined, where the first two of them give a vector that passes a test and is new
 abbrev pub told_triples : (List Bool → Bool) → Join → List Class → List (Option (List Bool)) → List (Option (List Bool))
 told_triples test join pair_classes [] = []
 told_triples test join pair_classes (m ∷ ms) = told_under test join pair_classes m ms ++ told_triples test join (classes_under test join pair_classes m ms) ms
@@ -120,11 +120,11 @@ told_triples test join pair_classes (m ∷ ms) = told_under test join pair_class
 abbrev pub told_two : List (Option (List Bool)) → List (Option (List Bool)) → List (Option (List Bool))
 told_two ands ors = told_pairs And ands ++ told_pairs Or ors
 
--- the vectors of three rows that are told, where a sieve lets the first two of them
+-- the vectors of three rows that are told: ANDs of some, and ORs of some, where the first two of them pass a sieve
 abbrev pub told_three : (Join → List Bool → Bool) → List (Option (List Bool)) → List (Option (List Bool)) → List (Option (List Bool))
 told_three may ands ors = told_triples (may And) And [] ands ++ told_triples (may Or) Or [] ors
 
--- the vectors of two or three rows that a sieve lets, as far as the bound goes, in the order of the predicates
+-- the vectors of two or three rows that pass a sieve, as far as the bound goes, in the order of the predicates
 abbrev pub told_more : (Join → List Bool → Bool) → List (Option (List Bool)) → ℕ → List (Option (List Bool))
 told_more may rows bound =
     (if nat_le 2 bound then told_two (sifted (may And) rows) (sifted (may Or) rows) else [])
@@ -134,7 +134,7 @@ told_more may rows bound =
 abbrev pub only_full : ℕ → List Class
 only_full width = class_of (0, replicate width true) ∷ []
 
--- the vectors of the predicates of up to `bound` atoms that a sieve lets, each with its number, where these are the vectors of the atoms
+-- the vectors of the predicates of up to `bound` atoms that are seen with a sieve, each with its number, where these are the vectors of the atoms
 abbrev pub all_told : (Join → List Bool → Bool) → ℕ → List (List Bool) → ℕ → List (ℕ × List Bool)
 all_told may width rows bound =
     (0, replicate width true) ∷ (enumerate_from 1 rows ++ numbered (1 + length rows) (told_more may (new_vectors (only_full width) 1 rows) bound))

@@ -109,13 +109,7 @@ fn see_all<S: Sieve>(
     found.see(&full, 0)?;
     let mut news = Vec::new(found.alloc());
     see_rows(found, rows, 1, &mut news)?;
-    see_more(
-        found,
-        sieve,
-        news.as_slice(),
-        bound,
-        1 + rows.len() as u64,
-    )
+    see_more(found, sieve, news.as_slice(), bound, 1 + rows.len() as u64)
 }
 
 /// Each vector that some predicate of up to `bound` atoms gives, once, with the number of the first predicate that gives it,
@@ -160,8 +154,12 @@ pub fn wanted_classes<S: Sieve>(
     ensures { IfOk result (λ found. found.items ≡ filter (is_wanted (S.may sieve.now)) (classes_of (vectors width atoms.now bound))) }
 {
     let mut found = Found::new(alloc, width, u64::MAX);
-    see_all(&mut found, sieve, atoms, bound).map_err(|_| OutOfMemory)?;
-    let mut wanted = found.into_classes().map_err(|_| OutOfMemory)?;
+    let Ok(()) = see_all(&mut found, sieve, atoms, bound) else {
+        return Err(OutOfMemory);
+    };
+    let Ok(mut wanted) = found.into_classes() else {
+        return Err(OutOfMemory);
+    };
     sift(sieve, &mut wanted);
     Ok(wanted)
 }

@@ -1,5 +1,5 @@
 ghost use Rattle.std.specs.Prelude.{◌≡◌, IfOk};
-ghost use Rattle.bit_classes.specs.Walk.{if_let, sifted};
+ghost use Rattle.bit_classes.specs.Walk.{if_passing, sifted};
 
 use crate::join::Join;
 use crate::sieve::Sieve;
@@ -14,7 +14,7 @@ fn copy_wanted<S: Sieve>(
     join: Join,
     row: &Option<BitRow>,
 ) -> Result<Option<BitRow>, OutOfMemory>
-    ensures { IfOk result (λ copy. copy ≡ if_let (S.may sieve.now join) row.now) }
+    ensures { IfOk result (λ copy. copy ≡ if_passing (S.may sieve.now join) row.now) }
 {
     let Some(row) = row else {
         return Ok(None);

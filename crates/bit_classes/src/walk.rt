@@ -1,7 +1,7 @@
 ghost use Rattle.std.specs.Prelude.{◌≡◌, ◌+◌, ◌<◌, ◌≤◌, ◌^◌, ◌∷◌, ◌++◌, [], length, map, option_map, Some, None, IfSome, IfOk, IfErr, OnOk, if◌then◌else◌};
 ghost use Rattle.std.specs.List.{All, enumerate_from};
 ghost use Rattle.bit_classes.specs.Vectors.{combined};
-ghost use Rattle.bit_classes.specs.Walk.{Sees, HasWidth, is_known, numbered, new_vectors, combined_told, combined_let, SameWidth, if_new, with_told, new_pairs, told_later, classes_under, told_triples};
+ghost use Rattle.bit_classes.specs.Walk.{Sees, HasWidth, is_known, numbered, new_vectors, combined_told, combined_passing, SameWidth, if_new, with_told, new_pairs, told_later, classes_under, told_triples};
 
 use crate::class::ClassEnd;
 use crate::found::Found;
@@ -64,7 +64,7 @@ fn combine_told<S: Sieve>(
     other: &Option<BitRow>,
 ) -> Result<Option<BitRow>, OutOfMemory>
     requires { SameWidth row.now other.now }
-    ensures { IfOk result (λ both. both ≡ combined_let (S.may sieve.now join) join row.now other.now) }
+    ensures { IfOk result (λ both. both ≡ combined_passing (S.may sieve.now join) join row.now other.now) }
 {
     let (Some(row), Some(other)) = (row, other) else {
         return Ok(None);

@@ -1,8 +1,7 @@
-use Rattle.std.proofs.Common.{◌≡◌, sym, ap, ◌∙◌, ◌+◌, ◌*◌, ◌++◌, nat_le, if◌then◌else◌, [], length, Ok, Err, arith}
-use Rattle.std.proofs.lemmas.List.{length-map}
+use Rattle.std.proofs.Common.{◌≡◌, sym, ap, ◌∙◌, ◌+◌, ◌*◌, nat_le, if◌then◌else◌, [], Ok, Err}
 use Rattle.std.proofs.lemmas.Result.{err_from_is_err_and}
 use Rattle.bit_classes.specs.declared.join.Join.TheVariants.{And, Or}
-use Rattle.bit_classes.specs.Walk.{Walk, HasWidth, if_let, sifted, numbered, told_two, told_three}
+use Rattle.bit_classes.specs.Walk.{Walk, sifted, numbered, told_two, told_three}
 use Rattle.bit_classes.proofs.WalkLaws.{sees_same}
 use Rattle.bit_classes.proofs.SplitLaws.{sifted_widths}
 use Rattle.bit_classes.proofs.PartLaws.{sees_parts, sees_first_part, length-told_two, more_from_two, more_of_three}

@@ -1,4 +1,4 @@
-use Rattle.std.proofs.Common.{refl, sym, ap, ◌∙◌, ◌+◌}
+use Rattle.std.proofs.Common.{sym, ap, ◌∙◌, ◌+◌}
 use Rattle.std.proofs.lemmas.Result.{err_from_is_err_and}
 use Rattle.bit_classes.specs.declared.join.Join.TheVariants.{And, Or}
 use Rattle.bit_classes.specs.Walk.{told_pairs}

@@ -1,4 +1,4 @@
-use Rattle.std.proofs.Common.{◌≡◌, ◌+◌, ◌++◌, drop}
+use Rattle.std.proofs.Common.{◌≡◌, ◌++◌, drop}
 use Rattle.bit_classes.specs.Walk.{new_pairs, classes_under}
 use Rattle.bit_classes.proofs.walk.pairs_under.Given as goal
 

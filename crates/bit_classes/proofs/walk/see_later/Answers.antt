@@ -1,4 +1,4 @@
-use Rattle.std.proofs.Common.{refl, ap, ◌+◌, ◌-◌, Option, List, Bool, length, map, drop, take, arith}
+use Rattle.std.proofs.Common.{refl, ap, ◌+◌, ◌-◌, length, map, drop, take, arith}
 use Rattle.std.proofs.lemmas.List.{take_rest, length-drop}
 use Rattle.std.proofs.lemmas.List.Elements.{All-drop}
 use Rattle.std.proofs.lemmas.Result.{err_from_is_err_and}

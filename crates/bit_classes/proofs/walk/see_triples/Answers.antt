@@ -1,9 +1,9 @@
-use Rattle.std.proofs.Common.{◌≡◌, refl, sym, ap, ◌∙◌, subst, ◌+◌, Ok, Err, [], length, drop, arith}
+use Rattle.std.proofs.Common.{◌≡◌, refl, sym, ap, ◌∙◌, ◌+◌, Ok, Err, [], length, drop, arith}
 use Rattle.std.proofs.lemmas.List.{take_rest}
 use Rattle.std.proofs.lemmas.List.Elements.{All-drop}
 use Rattle.std.proofs.lemmas.Result.{err_from_is_err_and}
 use Rattle.predicate_core.specs.Counts.{pair_count}
-use Rattle.bit_classes.specs.Walk.{Walk, HasWidth, SameWidth, numbered, new_pairs, told_later, told_under, classes_under, told_triples}
+use Rattle.bit_classes.specs.Walk.{Walk, HasWidth, numbered, new_pairs, told_later, told_under, classes_under, told_triples}
 use Rattle.bit_classes.proofs.WalkLaws.{way_goes_on, way_ends, way_stops, sees_same}
 use Rattle.bit_classes.proofs.SplitLaws.{triples_split, triples_end, HasWidth-read, same_widths, new_pairs_widths, length-new_pairs}
 use Rattle.bit_classes.proofs.walk.see_triples.Goals as goal
