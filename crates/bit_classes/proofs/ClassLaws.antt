@@ -1,5 +1,5 @@
 -- The classes of a list are those that are found when it is seen in order.
-use Rattle.std.proofs.Common.{◌≡◌, refl, sym, ap, ◌∙◌, subst, ℕ, ◌+◌, ◌<◌, Bool, true, false, ◌||◌, ◌==◌, List, [], ◌∷◌, ◌++◌, length, map, filter, Ok, Err, inl, inr, arith}
+use Rattle.std.proofs.Common.{◌≡◌, refl, sym, ap, ◌∙◌, subst, ℕ, ◌+◌, ◌<◌, Bool, true, false, ◌||◌, ◌==◌, List, [], ◌∷◌, ◌++◌, length, map, filter, inl, inr, arith}
 use Rattle.std.specs.List.{list_any, position_or_len, enumerate_from}
 use Rattle.std.proofs.lemmas.List.{append_assoc, append-nil, length_push}
 use Rattle.std.proofs.lemmas.Bool.{cases_Bool, false≢true}
@@ -8,10 +8,7 @@ use Rattle.bit_rows.specs.Bits.{same_bits}
 use Rattle.bit_rows.proofs.PackLaws.{same_bits_decides}
 use Rattle.bit_classes.specs.declared.class.Class.{Class}
 use Rattle.bit_classes.specs.Classes.{class_of, stands_first, classes_of}
-use Rattle.bit_classes.specs.declared.class.ClassEnd.{ClassEnd}
-use Rattle.bit_classes.specs.declared.class.ClassEnd.TheVariants.{More}
-use Rattle.bit_classes.specs.Vectors.{vectors}
-use Rattle.bit_classes.specs.Walk.{Walk, Sees, is_known, with_vectors}
+use Rattle.bit_classes.specs.Walk.{is_known, with_vectors}
 use Rattle.bit_classes.proofs.WalkLaws.{known_stays, new_stays}
 
 or_assoc : (a b c : Bool) → (a || (b || c)) ≡ ((a || b) || c)
@@ -104,19 +101,3 @@ seen_in_order all seen (v ∷ rest) classes n split long know =
 pub classes_seen : (vectors : List (List Bool)) → with_vectors [] (enumerate_from 0 vectors) ≡ classes_of vectors
 unfolding Know
 classes_seen vectors = seen_in_order vectors [] vectors [] 0 refl refl (λ x. refl)
-
--- ---- all that is seen
-
-pub all_classes : (width limit bound : ℕ) (rows : List (List Bool)) (found after : Walk) → found ≡ record { classes = []; width = width; limit = limit }
-    → Sees found (enumerate_from 0 (vectors found.width rows bound)) after (Ok tt) → (after.classes ≡ classes_of (vectors width rows bound)) × (after.limit ≡ limit)
-all_classes width limit bound rows found after empty seen =
-    let all : Walk → List Class = λ w. with_vectors w.classes (enumerate_from 0 (vectors w.width rows bound)) in
-    (ap (λ (w : Walk). w.classes) seen ∙ ap all empty ∙ classes_seen (vectors width rows bound), ap (λ (w : Walk). w.limit) seen ∙ ap (λ (w : Walk). w.limit) empty)
-
-pub too_many : (width limit bound : ℕ) (rows : List (List Bool)) (found after : Walk) (end : ClassEnd) → found ≡ record { classes = []; width = width; limit = limit }
-    → Sees found (enumerate_from 0 (vectors found.width rows bound)) after (Err end) → end ≡ More → limit < length (classes_of (vectors width rows bound))
-too_many width limit bound rows found after end empty stopped more =
-    let all : Walk → List Class = λ w. with_vectors w.classes (enumerate_from 0 (vectors w.width rows bound)) in
-    let count = ap length (ap all empty ∙ classes_seen (vectors width rows bound)) in
-    let same = ap (λ (w : Walk). w.limit) empty in
-    omega (arith, stopped more, count, same)

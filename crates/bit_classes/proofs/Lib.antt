@@ -1,5 +1,6 @@
 pub mod ClassLaws
 pub mod JoinLaws
+pub mod KeptLaws
 pub mod KnownLaws
 pub mod PartLaws
 pub mod PredLaws
@@ -8,3 +9,4 @@ pub mod ThinLaws
 pub mod ToldLaws
 pub mod TripleLaws
 pub mod WalkLaws
+pub mod WholeLaws

@@ -71,6 +71,19 @@ thin_length K [] (v ∷ vs) t = absurd t
 thin_length K (u ∷ us) [] t = absurd t
 thin_length K (u ∷ us) (v ∷ vs) t = ap suc (thin_length (λ w. K w ⊎ (w ≡ v)) us vs t.1)
 
+-- what is told stays told under a map, or it is known
+pub thin_mapped : {V : Type 0} (f : Option V → Option V) → (f None ≡ None) → (K : V → Type 0) (us : List (Option V)) (vs : List V) → ((v : V) → In v vs → (f (Some v) ≡ Some v) ⊎ ((f (Some v) ≡ None) × K v)) → Thin K us vs → Thin K (map f us) vs
+thin_mapped f none K [] [] each t = tt
+thin_mapped f none K [] (v ∷ vs) each t = absurd t
+thin_mapped f none K (u ∷ us) [] each t = absurd t
+thin_mapped f none K (u ∷ us) (v ∷ vs) each t =
+    let known : (w : _) → In w vs → (f (Some w) ≡ Some w) ⊎ ((f (Some w) ≡ None) × (K w ⊎ (w ≡ v))) = λ w i. elim (each w (inr i)) [ inl e ↦ inl e | inr k ↦ inr (k.0, inl k.1) ] in
+    let rest = thin_mapped f none (λ w. K w ⊎ (w ≡ v)) us vs known t.1 in
+    elim t.0 [
+      | inl e ↦ elim (each v (inl refl)) [ inl kept ↦ (inl (ap f e ∙ kept), rest) | inr lost ↦ (inr (ap f e ∙ lost.0, lost.1), rest) ]
+      | inr k ↦ (inr (ap f k.0 ∙ none, k.1), rest)
+    ]
+
 no_more : {V : Type 0} (K : V → Type 0) (w : V) → K w ⊎ In w [] → K w
 no_more K w (inl k) = k
 no_more K w (inr i) = absurd i
@@ -97,6 +110,13 @@ thin_none f g none K (a ∷ as') (c ∷ cs) same known =
 
 -- ---- pairs
 
+-- the pairs of the first element come first, and then those of the rest
+pub pairs_first : {X V : Type 0} (g : X → X → V) (x : X) (xs : List X) → map (λ p. g p.0 p.1) (pairs (x ∷ xs)) ≡ map (g x) xs ++ map (λ p. g p.0 p.1) (pairs xs)
+pairs_first {X} {V} g x xs =
+    let join : X × X → V = λ p. g p.0 p.1 in
+    let with_x : X → X × X = λ y. (x, y) in
+    map-append join (map with_x xs) (pairs xs) ∙ ap (λ t. t ++ map join (pairs xs)) (map-map join with_x xs)
+
 module _ {X V : Type 0} (g : X → X → V) (h : Option X → Option X → Option V)
     (told : (x y : X) → h (Some x) (Some y) ≡ Some (g x y)) (none_left : (y : Option X) → h None y ≡ None) (none_right : (x : X) → h (Some x) None ≡ None) where
   row_more : (x z : X) (B : X → Type 0) (K : V → Type 0) → ((w : X) → B w → K (g x w)) → (w : X) → B w ⊎ (w ≡ z) → K (g x w) ⊎ (g x w ≡ g x z)
@@ -114,18 +134,6 @@ module _ {X V : Type 0} (g : X → X → V) (h : Option X → Option X → Optio
         | inl e ↦ (inl (ap (h (Some x)) e ∙ told x z), rest)
         | inr b ↦ (inr (ap (h (Some x)) b.0 ∙ none_right x, known z b.1), rest)
       ]
-
-  split_told : (m : Option X) (ms : List (Option X)) → map (λ p. h p.0 p.1) (pairs (m ∷ ms)) ≡ map (h m) ms ++ map (λ p. h p.0 p.1) (pairs ms)
-  split_told m ms =
-      let join : Option X × Option X → Option V = λ p. h p.0 p.1 in
-      let with_m : Option X → Option X × Option X = λ y. (m, y) in
-      map-append join (map with_m ms) (pairs ms) ∙ ap (λ t. t ++ map join (pairs ms)) (map-map join with_m ms)
-
-  pub split_pairs : (x : X) (xs : List X) → map (λ p. g p.0 p.1) (pairs (x ∷ xs)) ≡ map (g x) xs ++ map (λ p. g p.0 p.1) (pairs xs)
-  split_pairs x xs =
-      let join : X × X → V = λ p. g p.0 p.1 in
-      let with_x : X → X × X = λ y. (x, y) in
-      map-append join (map with_x xs) (pairs xs) ∙ ap (λ t. t ++ map join (pairs xs)) (map-map join with_x xs)
 
   pub shift : (B : X → Type 0) (x z : X) (xs : List X) → (B z ⊎ (z ≡ x)) ⊎ In z xs → B z ⊎ In z (x ∷ xs)
   shift B x z xs (inl (inl b)) = inl b
@@ -160,4 +168,4 @@ module _ {X V : Type 0} (g : X → X → V) (h : Option X → Option X → Optio
           | inl e ↦ thin_same K (map (h m) ms) (map (h (Some x)) ms) (map (g x) xs) (map (g x) xs) (ap (λ u. map (h u) ms) e) refl (thin_row x B' K (first_row B K x xs own before) ms xs t.1)
           | inr b ↦ thin_none (h m) (g x) (λ a. ap (λ u. h u a) b.0 ∙ none_left a) K ms xs same (λ z i. before x z b.1 (inr (inr i)))
         ] in
-        thin_same K _ _ _ _ (split_told m ms) (split_pairs x xs) (thin_append K (map (h m) ms) (map (g x) xs) (map (λ p. h p.0 p.1) (pairs ms)) (map (λ p. g p.0 p.1) (pairs xs)) first rest)
+        thin_same K _ _ _ _ (pairs_first h m ms) (pairs_first g x xs) (thin_append K (map (h m) ms) (map (g x) xs) (map (λ p. h p.0 p.1) (pairs ms)) (map (λ p. g p.0 p.1) (pairs xs)) first rest)

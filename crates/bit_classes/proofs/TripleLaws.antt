@@ -1,5 +1,5 @@
 -- Two vectors that give no new one give none with a third either.
-use Rattle.std.proofs.Common.{◌≡◌, refl, sym, ap, ◌∙◌, subst, ◌⊎◌, inl, inr, Bool, true, Option, Some, None, List, [], ◌∷◌, ◌++◌, length, map}
+use Rattle.std.proofs.Common.{◌≡◌, refl, sym, ap, ◌∙◌, subst, ◌⊎◌, inl, inr, Bool, true, false, Option, Some, None, List, [], ◌∷◌, ◌++◌, length, map}
 use Rattle.std.proofs.lemmas.Bool.{cases_Bool}
 use Rattle.std.proofs.lemmas.List.{map-append}
 use Rattle.std.proofs.lemmas.Option.{none-some, same_Some}
@@ -10,7 +10,7 @@ use Rattle.predicate_core.proofs.OnceLists.{In, in_same, in_pairs}
 use Rattle.bit_classes.specs.declared.class.Class.{Class}
 use Rattle.bit_classes.specs.declared.join.Join.{Join}
 use Rattle.bit_classes.specs.Vectors.{combined, combined_triples}
-use Rattle.bit_classes.specs.Walk.{is_known, combined_told, if_new, with_told, told_under, classes_under, told_triples}
+use Rattle.bit_classes.specs.Walk.{is_known, if_passing, combined_told, combined_passing, if_new, with_told, told_under, classes_under, told_triples}
 use Rattle.bit_classes.proofs.KnownLaws.{known_before}
 use Rattle.bit_classes.proofs.JoinLaws.{joined_turned, joined_grouped, joined_own}
 use Rattle.bit_classes.proofs.SplitLaws.{map-map}
@@ -19,7 +19,16 @@ use Rattle.bit_classes.proofs.ThinLaws.{Thin, thin_append, thin_length, thin_sam
 abbrev Vector : Type 0
 Vector = List Bool
 
-module _ (join : Join) where
+-- what passes a test is told
+passing_told : (test : Vector → Bool) (told : Option Vector) (c : Vector) → if_passing test told ≡ Some c → told ≡ Some c
+passing_told test None c e = absurd (none-some c e)
+passing_told test (Some v) c e =
+    elim (cases_Bool (test v)) [
+      | inl passes ↦ let kept : if_passing test (Some v) ≡ Some v = rw passes refl in sym kept ∙ e
+      | inr not ↦ let lost : if_passing test (Some v) ≡ None = rw not refl in absurd (none-some c (sym lost ∙ e))
+    ]
+
+module _ (test : Vector → Bool) (join : Join) where
   -- three vectors combined, in another order or with one twice
   last_turned : (x y z : Vector) → combined join (combined join x y) z ≡ combined join (combined join x z) y
   last_turned x y z = joined_grouped join x y z ∙ ap (combined join x) (joined_turned join y z) ∙ sym (joined_grouped join x z y)
@@ -80,13 +89,13 @@ module _ (join : Join) where
   class_before classes (Some v) c known = elim (known_before classes 0 v c known) [ inl a ↦ inl a | inr e ↦ inr (ap (λ w. Some w) (sym e)) ]
 
   -- a class was there before, or is the first vector combined with one that is told
-  class_from : (classes : List Class) (first : Option Vector) (ms : List (Option Vector)) (c : Vector) → is_known (classes_under join classes first ms) c ≡ true
+  class_from : (classes : List Class) (first : Option Vector) (ms : List (Option Vector)) (c : Vector) → is_known (classes_under test join classes first ms) c ≡ true
       → (is_known classes c ≡ true) ⊎ ((u : Option Vector) × In u ms × (combined_told join first u ≡ Some c))
   class_from classes first [] c known = inl known
   class_from classes first (m ∷ ms) c known =
-      let told = combined_told join first m in
+      let told = combined_passing test join first m in
       elim (class_from (with_told classes told) first ms c known) [
-        | inl a ↦ elim (class_before classes told c a) [ inl b ↦ inl b | inr e ↦ inr (m, inl refl, e) ]
+        | inl a ↦ elim (class_before classes told c a) [ inl b ↦ inl b | inr e ↦ inr (m, inl refl, passing_told test (combined_told join first m) c e) ]
         | inr u ↦ inr (u.0, inr u.1, u.2)
       ]
 
@@ -115,29 +124,38 @@ module _ (join : Join) where
   -- x and y combined, with each vector after y
   row_thin : (x y : Vector) (B K : Vector → Type 0) (classes : List Class) (m : Option Vector) (ms : List (Option Vector)) (ys : List Vector)
       → (m ≡ Some y) ⊎ ((m ≡ None) × B y) → Thin (λ w. B w ⊎ (w ≡ y)) ms ys → K (combined join x y) → ((w z : Vector) → B w → In z (y ∷ ys) → K (combined join (combined join x w) z)) → Gives classes K (y ∷ ys)
-      → Thin K (map (combined_told join (if_new classes (combined_told join (Some x) m))) ms) (map (combined join (combined join x y)) ys)
-  row_thin x y B K classes m ms ys (inr none) rest own before gives =
-      let both : Option Vector = combined_told join (Some x) m in
-      let nothing : if_new classes both ≡ None = ap (λ u. if_new classes (combined_told join (Some x) u)) none.0 in
+      → (test (combined join x y) ≡ false → (z : Vector) → In z ys → K (combined join (combined join x y) z))
+      → Thin K (map (combined_told join (if_new classes (combined_passing test join (Some x) m))) ms) (map (combined join (combined join x y)) ys)
+  row_thin x y B K classes m ms ys (inr none) rest own before gives lost =
+      let both : Option Vector = combined_passing test join (Some x) m in
+      let nothing : if_new classes both ≡ None = ap (λ u. if_new classes (combined_passing test join (Some x) u)) none.0 in
       thin_none (combined_told join (if_new classes both)) (combined join (combined join x y)) (λ u. ap (λ w. combined_told join w u) nothing) K ms ys (thin_length (λ w. B w ⊎ (w ≡ y)) ms ys rest) (λ z i. before y z none.1 (inr i))
-  row_thin x y B K classes m ms ys (inl some) rest own before gives =
+  row_thin x y B K classes m ms ys (inl some) rest own before gives lost =
       let v = combined join x y in
-      let both : Option Vector = combined_told join (Some x) m in
-      let both_is : both ≡ Some v = ap (combined_told join (Some x)) some in
-      elim (cases_Bool (is_known classes v)) [
-        | inl old ↦
-            let known : if_new classes (Some v) ≡ None = rw old refl in
-            let nothing : if_new classes both ≡ None = ap (if_new classes) both_is ∙ known in
-            thin_none (combined_told join (if_new classes both)) (combined join v) (λ u. ap (λ w. combined_told join w u) nothing) K ms ys (thin_length (λ w. B w ⊎ (w ≡ y)) ms ys rest) (λ z i. gives v old z (inr i))
-        | inr new ↦
-            let unknown : if_new classes (Some v) ≡ Some v = rw new refl in
-            let told : if_new classes both ≡ Some v = ap (if_new classes) both_is ∙ unknown in
-            let with_known : (w : Vector) → B w ⊎ (w ≡ y) → K (combined join v w) = λ w either. elim either [
-              | inl b ↦ subst K (last_turned x w y) (before w y b (inl refl))
-              | inr e ↦ subst (λ u. K (combined join v u)) (sym e) (subst K (sym (last_own x y)) own)
-            ] in
-            thin_same K _ (map (combined_told join (Some v)) ms) _ (map (combined join v) ys) (ap (λ u. map (combined_told join u) ms) told) refl
-            (thin_row (combined join) (combined_told join) (λ a b. refl) (λ u. refl) (λ a. refl) v (λ w. B w ⊎ (w ≡ y)) K with_known ms ys rest)
+      let both : Option Vector = combined_passing test join (Some x) m in
+      let nothing_thin : if_new classes both ≡ None → ((z : Vector) → In z ys → K (combined join v z)) → Thin K (map (combined_told join (if_new classes both)) ms) (map (combined join v) ys) = λ nothing each.
+      thin_none (combined_told join (if_new classes both)) (combined join v) (λ u. ap (λ w. combined_told join w u) nothing) K ms ys (thin_length (λ w. B w ⊎ (w ≡ y)) ms ys rest) each in
+      let both_is : both ≡ if_passing test (Some v) = ap (combined_passing test join (Some x)) some in
+      elim (cases_Bool (test v)) [
+        | inr not ↦
+            let none : if_passing test (Some v) ≡ None = rw not refl in
+            nothing_thin (ap (if_new classes) (both_is ∙ none)) (lost not)
+        | inl passes ↦
+            let passing_v : if_passing test (Some v) ≡ Some v = rw passes refl in
+            elim (cases_Bool (is_known classes v)) [
+              | inl old ↦
+                  let known : if_new classes (Some v) ≡ None = rw old refl in
+                  nothing_thin (ap (if_new classes) (both_is ∙ passing_v) ∙ known) (λ z i. gives v old z (inr i))
+              | inr new ↦
+                  let unknown : if_new classes (Some v) ≡ Some v = rw new refl in
+                  let told : if_new classes both ≡ Some v = ap (if_new classes) (both_is ∙ passing_v) ∙ unknown in
+                  let with_known : (w : Vector) → B w ⊎ (w ≡ y) → K (combined join v w) = λ w either. elim either [
+                    | inl b ↦ subst K (last_turned x w y) (before w y b (inl refl))
+                    | inr e ↦ subst (λ u. K (combined join v u)) (sym e) (subst K (sym (last_own x y)) own)
+                  ] in
+                  thin_same K _ (map (combined_told join (Some v)) ms) _ (map (combined join v) ys) (ap (λ u. map (combined_told join u) ms) told) refl
+                  (thin_row (combined join) (combined_told join) (λ a b. refl) (λ u. refl) (λ a. refl) v (λ w. B w ⊎ (w ≡ y)) K with_known ms ys rest)
+            ]
       ]
 
   split_under : (x y : Vector) (ys : List Vector) → map (λ p. combined join (combined join x p.0) p.1) (pairs (y ∷ ys)) ≡ map (combined join (combined join x y)) ys ++ map (λ p. combined join (combined join x p.0) p.1) (pairs ys)
@@ -148,17 +166,18 @@ module _ (join : Join) where
 
   under_thin : (x : Vector) (B K : Vector → Type 0) (classes : List Class) (ms : List (Option Vector)) (xs : List Vector) → Thin B ms xs
       → ((y : Vector) → In y xs → K (combined join x y)) → ((w z : Vector) → B w → In z xs → K (combined join (combined join x w) z)) → Gives classes K xs
-      → Thin K (told_under join classes (Some x) ms) (map (λ p. combined join (combined join x p.0) p.1) (pairs xs))
-  under_thin x B K classes [] [] t own before gives = tt
-  under_thin x B K classes [] (y ∷ ys) t own before gives = absurd t
-  under_thin x B K classes (m ∷ ms) [] t own before gives = absurd t
-  under_thin x B K classes (m ∷ ms) (y ∷ ys) t own before gives =
+      → ((y z : Vector) → In y xs → In z xs → test (combined join x y) ≡ false → K (combined join (combined join x y) z))
+      → Thin K (told_under test join classes (Some x) ms) (map (λ p. combined join (combined join x p.0) p.1) (pairs xs))
+  under_thin x B K classes [] [] t own before gives lost = tt
+  under_thin x B K classes [] (y ∷ ys) t own before gives lost = absurd t
+  under_thin x B K classes (m ∷ ms) [] t own before gives lost = absurd t
+  under_thin x B K classes (m ∷ ms) (y ∷ ys) t own before gives lost =
       let v = combined join x y in
       let row = map (combined join v) ys in
       let B' : Vector → Type 0 = λ w. B w ⊎ (w ≡ y) in
       let K' : Vector → Type 0 = λ w. K w ⊎ In w row in
-      let told = combined_told join (Some x) m in
-      let first = row_thin x y B K classes m ms ys t.0 t.1 (own y (inl refl)) before gives in
+      let told = combined_passing test join (Some x) m in
+      let first = row_thin x y B K classes m ms ys t.0 t.1 (own y (inl refl)) before gives (λ not z i. lost y z (inl refl) (inr i) not) in
       let in_row : (z : Vector) → In z ys → K' (combined join v z) = λ z i. inr (in_mapped (combined join v) z ys i) in
       let before' : (w z : Vector) → B w ⊎ (w ≡ y) → In z ys → K' (combined join (combined join x w) z) = λ w z either i. elim either [
         | inl b ↦ inl (before w z b (inr i))
@@ -166,13 +185,13 @@ module _ (join : Join) where
       ] in
       let gives' : Gives (with_told classes told) K' ys = λ c known z i. elim (class_before classes told c known) [
         | inl a ↦ inl (gives c a z (inr i))
-        | inr e ↦ subst (λ u. K' (combined join u z)) (sym (told_joined x y c B m t.0 e)) (in_row z i)
+        | inr e ↦ subst (λ u. K' (combined join u z)) (sym (told_joined x y c B m t.0 (passing_told test (combined_told join (Some x) m) c e))) (in_row z i)
       ] in
       thin_same K _ _ _ _ refl (split_under x y ys)
       (thin_append K _ row _ (map (λ p. combined join (combined join x p.0) p.1) (pairs ys)) first
-      (under_thin x B' K' (with_told classes told) ms ys t.1 (λ z i. inl (own z (inr i))) before' gives'))
+      (under_thin x B' K' (with_told classes told) ms ys t.1 (λ z i. inl (own z (inr i))) before' gives' (λ a z i j not. inl (lost a z (inr i) (inr j) not))))
 
-  none_under : (classes : List Class) (ms : List (Option Vector)) → told_under join classes None ms ≡ map (λ p. None) (pairs ms)
+  none_under : (classes : List Class) (ms : List (Option Vector)) → told_under test join classes None ms ≡ map (λ p. None) (pairs ms)
   none_under classes [] = refl
   none_under classes (u ∷ us) =
       let nothing : Option Vector × Option Vector → Option Vector = λ p. None in
@@ -193,21 +212,22 @@ module _ (join : Join) where
       → ((y z : Vector) → B y ⊎ In y xs → B z ⊎ In z xs → K (combined join y z))
       → ((a y z : Vector) → B a → B y ⊎ In y xs → B z ⊎ In z xs → K (combined join (combined join a y) z))
       → ((c : Vector) → is_known classes c ≡ true → (z : Vector) → B z ⊎ In z xs → K (combined join c z))
-      → Thin K (told_triples join classes ms) (combined_triples join xs)
-  triples_thin B K classes [] [] t two before gives = tt
-  triples_thin B K classes [] (x ∷ xs) t two before gives = absurd t
-  triples_thin B K classes (m ∷ ms) [] t two before gives = absurd t
-  triples_thin B K classes (m ∷ ms) (x ∷ xs) t two before gives =
+      → ((x y z : Vector) → In x xs → In y xs → In z xs → test (combined join x y) ≡ false → K (combined join (combined join x y) z))
+      → Thin K (told_triples test join classes ms) (combined_triples join xs)
+  triples_thin B K classes [] [] t two before gives lost = tt
+  triples_thin B K classes [] (x ∷ xs) t two before gives lost = absurd t
+  triples_thin B K classes (m ∷ ms) [] t two before gives lost = absurd t
+  triples_thin B K classes (m ∷ ms) (x ∷ xs) t two before gives lost =
       let B' : Vector → Type 0 = λ w. B w ⊎ (w ≡ x) in
       let f : Vector × Vector → Vector = λ p. combined join (combined join x p.0) p.1 in
       let K' : Vector → Type 0 = λ w. K w ⊎ In w (map f (pairs xs)) in
-      let after = classes_under join classes m ms in
+      let after = classes_under test join classes m ms in
       let same : length (pairs ms) ≡ length (pairs xs) = length-pairs ms ∙ ap pair_count (thin_length B' ms xs t.1) ∙ sym (length-pairs xs) in
       let nothing : Option Vector × Option Vector → Option Vector = λ p. None in
-      let first : Thin K (told_under join classes m ms) (map f (pairs xs)) = elim t.0 [
-        | inl e ↦ thin_same K _ (told_under join classes (Some x) ms) _ (map f (pairs xs)) (ap (λ u. told_under join classes u ms) e) refl
-            (under_thin x B' K classes ms xs t.1 (λ y i. two x y (inr (inl refl)) (inr (inr i))) (λ w z b i. before_under B K x xs two before w z b (inr i)) (λ c known z i. gives c known z (inr (inr i))))
-        | inr n ↦ thin_same K _ (map nothing (pairs ms)) _ (map f (pairs xs)) (ap (λ u. told_under join classes u ms) n.0 ∙ none_under classes ms) refl
+      let first : Thin K (told_under test join classes m ms) (map f (pairs xs)) = elim t.0 [
+        | inl e ↦ thin_same K _ (told_under test join classes (Some x) ms) _ (map f (pairs xs)) (ap (λ u. told_under test join classes u ms) e) refl
+            (under_thin x B' K classes ms xs t.1 (λ y i. two x y (inr (inl refl)) (inr (inr i))) (λ w z b i. before_under B K x xs two before w z b (inr i)) (λ c known z i. gives c known z (inr (inr i))) (λ y z i j not. lost x y z (inl refl) (inr i) (inr j) not))
+        | inr n ↦ thin_same K _ (map nothing (pairs ms)) _ (map f (pairs xs)) (ap (λ u. told_under test join classes u ms) n.0 ∙ none_under classes ms) refl
             (thin_none nothing f (λ p. refl) K (pairs ms) (pairs xs) same (λ p i. let parts = in_pairs p xs i in before x p.0 p.1 n.1 (inr (inr parts.0)) (inr (inr parts.1))))
       ] in
       let gives' : (c : Vector) → is_known after c ≡ true → (z : Vector) → B' z ⊎ In z xs → K' (combined join c z) = λ c known z among.
@@ -220,4 +240,4 @@ module _ (join : Join) where
       ] in
       thin_same K _ _ _ _ refl (split_triples x xs)
       (thin_append K _ (map f (pairs xs)) _ (combined_triples join xs) first
-      (triples_thin B' K' after ms xs t.1 (λ y z a b. inl (two y z (shift B x y xs a) (shift B x z xs b))) (before_three B K x xs two before) gives'))
+      (triples_thin B' K' after ms xs t.1 (λ y z a b. inl (two y z (shift B x y xs a) (shift B x z xs b))) (before_three B K x xs two before) gives' (λ a b c i j k not. inl (lost a b c (inr i) (inr j) (inr k) not))))

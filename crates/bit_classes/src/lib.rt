@@ -7,6 +7,7 @@ mod join;
 mod laws;
 mod listing;
 mod sieve;
+mod sift;
 mod walk;
 
 pub use class::{Class, ClassEnd};

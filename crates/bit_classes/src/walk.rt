@@ -1,11 +1,12 @@
 ghost use Rattle.std.specs.Prelude.{◌≡◌, ◌+◌, ◌<◌, ◌≤◌, ◌^◌, ◌∷◌, ◌++◌, [], length, map, option_map, Some, None, IfSome, IfOk, IfErr, OnOk, if◌then◌else◌};
 ghost use Rattle.std.specs.List.{All, enumerate_from};
 ghost use Rattle.bit_classes.specs.Vectors.{combined};
-ghost use Rattle.bit_classes.specs.Walk.{Sees, HasWidth, is_known, numbered, new_vectors, combined_told, if_new, with_told, told_pairs, told_under, classes_under, told_triples};
+ghost use Rattle.bit_classes.specs.Walk.{Sees, HasWidth, is_known, numbered, new_vectors, combined_told, combined_passing, SameWidth, if_new, with_told, new_pairs, told_later, classes_under, told_triples};
 
 use crate::class::ClassEnd;
 use crate::found::Found;
 use crate::join::{Join, combine_rows, set_combined};
+use crate::sieve::Sieve;
 use bit_rows::BitRow;
 use predicate_core::pair_count;
 use std::alloc::Global;
@@ -54,20 +55,25 @@ pub fn see_rows(
     Ok(())
 }
 
-// Two rows combined, where there is a second.
-fn combine_told(
+// Two rows combined, where there are both, and what they give may be wanted.
+fn combine_told<S: Sieve>(
     alloc: Global,
+    sieve: &S,
     join: Join,
-    row: &BitRow,
+    row: &Option<BitRow>,
     other: &Option<BitRow>,
 ) -> Result<Option<BitRow>, OutOfMemory>
-    requires { IfSome other.now (λ v. length row.now ≡ length v) }
-    ensures { IfOk result (λ both. both ≡ option_map (combined join row.now) other.now) }
+    requires { SameWidth row.now other.now }
+    ensures { IfOk result (λ both. both ≡ combined_passing (S.may sieve.now join) join row.now other.now) }
 {
-    match other {
-        Some(other) => Ok(Some(combine_rows(alloc, join, row, other)?)),
-        None => Ok(None),
+    let (Some(row), Some(other)) = (row, other) else {
+        return Ok(None);
+    };
+    let both = combine_rows(alloc, join, row, other)?;
+    if sieve.may(join, &both) {
+        return Ok(Some(both));
     }
+    Ok(None)
 }
 
 // Sees a row combined with another, where there is one.
@@ -133,22 +139,25 @@ fn see_told(
     }
 }
 
-/// Sees each two of some rows combined, where there are both, under the numbers from one on.
-pub fn see_pairs(
+/// Sees each of some first rows combined with those of some rows that stand later, where there are both, under the numbers from one on.
+pub fn see_later(
     found: &mut Found,
     join: Join,
+    firsts: &[Option<BitRow>],
     rows: &[Option<BitRow>],
     number: u64,
 ) -> Result<(), ClassEnd>
+    requires beside { length firsts.now ≡ length rows.now }
+    requires firsts { All (HasWidth found.old.width) firsts.now }
     requires widths { All (HasWidth found.old.width) rows.now }
     requires few { length rows.now ≤ 100000 }
-    requires small { number ≤ 2 ^ 60 }
-    ensures { Sees found.old (numbered number (told_pairs join rows.now)) found.new result }
+    requires small { number ≤ 2 ^ 61 }
+    ensures { Sees found.old (numbered number (told_later join firsts.now rows.now)) found.new result }
 {
     let mut next = number;
     for i in 0..rows.len() {
         let others = &rows[i + 1..];
-        see_told(found, join, &rows[i], others, next)?;
+        see_told(found, join, &firsts[i], others, next)?;
         next += others.len() as u64;
     }
     Ok(())
@@ -169,60 +178,32 @@ fn keep_new(pairs: &mut Found, row: Option<BitRow>) -> Result<Option<BitRow>, Ou
     Ok(Some(row))
 }
 
-// Sees a row combined with each two of some others, under the numbers from one on, where it with the earlier of the two gives
-// a new row among `pairs`.
-fn see_pairs_under(
-    found: &mut Found,
+// A row combined with each of some others in turn, where there are both, what they give may be wanted, and it is new among `pairs`.
+fn pairs_under<S: Sieve>(
     pairs: &mut Found,
-    join: Join,
-    first: &BitRow,
-    rows: &[Option<BitRow>],
-    number: u64,
-) -> Result<(), ClassEnd>
-    requires width { length first.now ≡ found.old.width }
-    requires widths { All (HasWidth found.old.width) rows.now }
-    requires few { length rows.now ≤ 100000 }
-    requires small { number ≤ 2 ^ 61 }
-    ensures sees { Sees found.old (numbered number (told_under join pairs.old.classes (Some first.now) rows.now)) found.new result }
-    ensures classes { OnOk result (pairs.new.classes ≡ classes_under join pairs.old.classes (Some first.now) rows.now) }
-{
-    let mut next = number;
-    for i in 0..rows.len() {
-        let combined = combine_told(found.alloc(), join, first, &rows[i])?;
-        let both = keep_new(pairs, combined)?;
-        let others = &rows[i + 1..];
-        see_told(found, join, &both, others, next)?;
-        next += others.len() as u64;
-    }
-    Ok(())
-}
-
-// The same of a row that there may be.
-fn see_pairs_told(
-    found: &mut Found,
-    pairs: &mut Found,
+    sieve: &S,
     join: Join,
     first: &Option<BitRow>,
     rows: &[Option<BitRow>],
-    number: u64,
-) -> Result<(), ClassEnd>
-    requires width { HasWidth found.old.width first.now }
-    requires widths { All (HasWidth found.old.width) rows.now }
-    requires few { length rows.now ≤ 100000 }
-    requires small { number ≤ 2 ^ 61 }
-    ensures sees { Sees found.old (numbered number (told_under join pairs.old.classes first.now rows.now)) found.new result }
-    ensures classes { OnOk result (pairs.new.classes ≡ classes_under join pairs.old.classes first.now rows.now) }
+) -> Result<Vec<Option<BitRow>>, OutOfMemory>
+    requires { All (SameWidth first.now) rows.now }
+    ensures told { IfOk result (λ boths. boths.items ≡ new_pairs (S.may sieve.now join) join pairs.old.classes first.now rows.now) }
+    ensures classes { OnOk result (pairs.new.classes ≡ classes_under (S.may sieve.now join) join pairs.old.classes first.now rows.now) }
 {
-    match first {
-        Some(first) => see_pairs_under(found, pairs, join, first, rows, number),
-        None => Ok(()),
+    let mut boths = Vec::new(pairs.alloc());
+    for i in 0..rows.len() {
+        let combined = combine_told(pairs.alloc(), sieve, join, first, &rows[i])?;
+        let both = keep_new(pairs, combined)?;
+        note(&mut boths, both)?;
     }
+    Ok(boths)
 }
 
 /// Sees each three of some rows combined, where there are all, under the numbers from one on. Where two of them give no new row,
-/// they give none with a third either.
-pub fn see_triples(
+/// or none that may be wanted, they give none with a third either.
+pub fn see_triples<S: Sieve>(
     found: &mut Found,
+    sieve: &S,
     join: Join,
     rows: &[Option<BitRow>],
     number: u64,
@@ -230,13 +211,14 @@ pub fn see_triples(
     requires widths { All (HasWidth found.old.width) rows.now }
     requires few { length rows.now ≤ 100000 }
     requires small { number ≤ 2 ^ 60 }
-    ensures { Sees found.old (numbered number (told_triples join [] rows.now)) found.new result }
+    ensures { Sees found.old (numbered number (told_triples (S.may sieve.now join) join [] rows.now)) found.new result }
 {
     let mut pairs = Found::new(found.alloc(), found.width(), u64::MAX);
     let mut next = number;
     for i in 0..rows.len() {
         let others = &rows[i + 1..];
-        see_pairs_told(found, &mut pairs, join, &rows[i], others, next)?;
+        let boths = pairs_under(&mut pairs, sieve, join, &rows[i], others)?;
+        see_later(found, join, boths.as_slice(), others, next)?;
         next += pair_count(others.len() as u64);
     }
     Ok(())
