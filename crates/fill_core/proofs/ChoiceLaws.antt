@@ -171,11 +171,6 @@ filter_made q f (x ∷ xs) = by (q (f x)) (filter_made q f xs)
     by true rest = ap (λ ys. f x ∷ ys) rest
     by false rest = rest
 
--- every element passes a test that all pass
-pub filter_every : {X : Type 0} (xs : List X) → filter (λ x. true) xs ≡ xs
-filter_every [] = refl
-filter_every (x ∷ xs) = ap (λ ys. x ∷ ys) (filter_every xs)
-
 -- the choices of the classes that may be wanted are the hole's that may be
 pub wanted_are : (task : TaskParts) (types : List ColType) (candidates : List Row) (constants : List Value) (bound width : ℕ) (rows : List (List Bool)) (list : List Pred) (may : Join → List Bool → Bool) (found : List Class)
     → constants ≡ task.constants → bound ≡ task.atoms → width ≡ length candidates → rows ≡ map (λ a. kept_vector constants candidates (One a)) (atom_list types constants) → list ≡ pred_list (atom_list types constants) bound
