@@ -1,8 +1,8 @@
 -- Of choices those alone that may be wanted: what is gathered of them is what is gathered of all.
-use Rattle.std.proofs.Common.{◌≡◌, refl, sym, ap, ap₂, ◌∙◌, ℕ, ◌*◌, Bool, true, false, ◌&&◌, List, [], ◌∷◌, ◌++◌, length, map, subst, Option, Some}
+use Rattle.std.proofs.Common.{◌≡◌, refl, sym, ap, ◌∙◌, ℕ, ◌*◌, Bool, true, false, List, [], ◌∷◌, ◌++◌, length, map, subst, Option, Some}
 use Rattle.std.specs.Prelude.{filter, All, IfSome, if◌then◌else◌}
 use Rattle.std.specs.List.{flat_map, sum_by}
-use Rattle.std.proofs.lemmas.List.Elements.{All-cons, All-nil, All-head, All-tail, All-same, All-filter, All-map, All-weaker}
+use Rattle.std.proofs.lemmas.List.Elements.{All-cons, All-head, All-tail, All-same, All-filter, All-map, All-weaker}
 use Rattle.value_core.specs.declared.value.ColType.{ColType}
 use Rattle.predicate_core.specs.declared.pred.Pred.{Pred}
 use Rattle.table_core.specs.Rows.{Row}

@@ -1,7 +1,7 @@
 -- What the readings of a left join's candidates tell of its pairs alone: a choice of pairs that gives the output as a left join's may be wanted, and so may what it is joined of.
-use Rattle.std.proofs.Common.{◌≡◌, refl, sym, ap, ap₂, subst, ◌∙◌, ℕ, zero, suc, ◌+◌, ◌-◌, ◌*◌, ◌<◌, ◌≤◌, Bool, true, false, not, ◌&&◌, ◌||◌, ◌==◌, List, [], ◌∷◌, ◌++◌, length, map, take, drop, append_assoc, inl, inr, arith}
-use Rattle.std.specs.Prelude.{nat_le, All, filter, flat_map, if◌then◌else◌}
-use Rattle.std.specs.List.{list_all, list_any, sum_by}
+use Rattle.std.proofs.Common.{◌≡◌, refl, sym, ap, ap₂, subst, ◌∙◌, ℕ, zero, suc, ◌+◌, ◌-◌, ◌*◌, ◌<◌, ◌≤◌, Bool, true, false, not, ◌&&◌, ◌||◌, List, [], ◌∷◌, ◌++◌, length, map, take, drop, append_assoc, inl, inr, arith}
+use Rattle.std.specs.Prelude.{nat_le, All, filter, if◌then◌else◌}
+use Rattle.std.specs.List.{list_any, sum_by}
 use Rattle.std.proofs.lemmas.Bool.{and_from, leb-true, le-leb, eq-eqb, false≢true, cases_Bool}
 use Rattle.std.proofs.lemmas.List.{drop-drop, length-append, length-drop, length-map, length-take-le, take-append-drop, take-map, drop-map, map-append}
 use Rattle.std.proofs.lemmas.List.Elements.{All-map, All-weaker}
@@ -10,7 +10,7 @@ use Rattle.value_core.specs.declared.value.ColType.{ColType}
 use Rattle.predicate_core.specs.declared.pred.Pred.{Pred}
 use Rattle.predicate_core.proofs.OnceLists.{In, in_append, in_map}
 use Rattle.table_core.specs.Rows.{Row, types_of}
-use Rattle.table_core.specs.Bag.{same_cells, count}
+use Rattle.table_core.specs.Bag.{same_cells}
 use Rattle.table_core.specs.declared.task.TaskParts.{TaskParts}
 use Rattle.query_core.specs.Firsts.{projected, firsts}
 use Rattle.query_core.specs.Grammar.{maps}
@@ -31,7 +31,7 @@ use Rattle.fill_core.proofs.MaskLaws.{masked_append, length_with_alone}
 use Rattle.map_walk.specs.Targets.{ones, are_enough}
 use Rattle.map_walk.specs.declared.target.Reading.{Reading}
 use Rattle.map_walk.specs.declared.target.Target.{Target}
-use Rattle.map_walk.proofs.OpenLaws.{any_in, any_follow}
+use Rattle.map_walk.proofs.OpenLaws.{any_follow}
 use Rattle.map_walk.proofs.WalkLaws.{ones_next}
 use Rattle.root_search.specs.Answers.{answers_on}
 use Rattle.root_search.specs.Reads.{read_answer, read_answers}

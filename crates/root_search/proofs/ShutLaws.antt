@@ -1,5 +1,5 @@
 -- Where the columns of a node's parts can't have all values of the output, no choice of the node's candidate rows gives an answer.
-use Rattle.std.proofs.Common.{◌≡◌, refl, sym, ap, ◌∙◌, ℕ, ◌==◌, Bool, true, false, List, ◌++◌, length, Some, inl, inr}
+use Rattle.std.proofs.Common.{◌≡◌, refl, sym, ap, ◌∙◌, ℕ, ◌==◌, true, false, List, ◌++◌, length, Some, inl, inr}
 use Rattle.std.specs.List.{list_all}
 use Rattle.std.proofs.lemmas.List.{append-nil, length-replicate}
 use Rattle.std.proofs.lemmas.Bool.{eqb-true}
@@ -7,7 +7,7 @@ use Rattle.value_core.specs.Value.{same}
 use Rattle.value_core.specs.declared.value.ColType.{ColType}
 use Rattle.value_core.specs.declared.value.Value.TheVariants.{Null}
 use Rattle.predicate_core.proofs.OnceLists.{In, in_append, in_map}
-use Rattle.table_core.specs.Rows.{Row, TableData, types_of}
+use Rattle.table_core.specs.Rows.{Row, types_of}
 use Rattle.table_core.specs.declared.task.TaskParts.{TaskParts}
 use Rattle.query_core.specs.Groups.{grouped}
 use Rattle.query_core.specs.Joins.{pairs_with, pairs_and_padded}
@@ -25,7 +25,6 @@ use Rattle.map_walk.specs.Readings.{row_has}
 use Rattle.map_walk.specs.Supply.{supplies_by, pair_supplies, group_supplies, opens}
 use Rattle.map_walk.proofs.SupplyLaws.{told_closed, supplies_tell, supplies_wide, IsPaired, pair_tells, group_tells, null_same, grouped_from}
 use Rattle.root_search.specs.Answers.{answers_on}
-use Rattle.root_search.specs.Readings.{readings}
 use Rattle.root_search.proofs.ReadLaws.{nothing_read}
 use Rattle.root_search.proofs.ReadingLaws.{readings_walked}
 

@@ -1,13 +1,13 @@
 -- What choices of candidate rows may be wanted: a choice that gives the output is, and so is what it is joined of.
-use Rattle.std.proofs.Common.{◌≡◌, refl, sym, ap, subst, ◌∙◌, ℕ, ◌+◌, ◌-◌, ◌<◌, ◌≤◌, drop, get_or, Bool, true, false, not, ◌&&◌, ◌||◌, ◌==◌, List, [], ◌∷◌, ◌++◌, length, map, inl, inr, arith}
-use Rattle.std.specs.Prelude.{nat_le, nat_lt, All, filter, flat_map, if◌then◌else◌}
+use Rattle.std.proofs.Common.{◌≡◌, refl, sym, ap, subst, ◌∙◌, ℕ, ◌+◌, ◌-◌, ◌<◌, ◌≤◌, drop, get_or, Bool, true, false, ◌&&◌, ◌||◌, ◌==◌, List, [], ◌∷◌, ◌++◌, length, map, inl, inr, arith}
+use Rattle.std.specs.Prelude.{nat_le, nat_lt, filter, flat_map, if◌then◌else◌}
 use Rattle.std.specs.List.{list_all, list_any, sum_by}
 use Rattle.std.proofs.lemmas.List.{at_drop_more, length-map}
-use Rattle.std.proofs.lemmas.Bool.{and_parts, and_from, both_ways, eqb-true, eq-eqb, leb-true, le-leb, false≢true, cases_Bool}
+use Rattle.std.proofs.lemmas.Bool.{and_parts, and_from, eqb-true, eq-eqb, leb-true, le-leb, false≢true, cases_Bool}
 use Rattle.value_core.specs.declared.value.ColType.{ColType}
 use Rattle.predicate_core.specs.declared.pred.Pred.{Pred}
 use Rattle.predicate_core.proofs.OnceLists.{In, in_map}
-use Rattle.table_core.specs.Rows.{Row, TableData, types_of}
+use Rattle.table_core.specs.Rows.{Row, types_of}
 use Rattle.table_core.specs.Bag.{count}
 use Rattle.table_core.specs.declared.task.TaskParts.{TaskParts}
 use Rattle.query_core.specs.Firsts.{projected, firsts}
@@ -31,9 +31,9 @@ use Rattle.map_walk.proofs.OpenLaws.{any_in, any_follow}
 use Rattle.map_walk.proofs.RowCountLaws.{both_same}
 use Rattle.map_walk.proofs.WalkLaws.{ones_next}
 use Rattle.root_search.specs.Answers.{answers_on}
-use Rattle.root_search.specs.Reads.{read_answer, read_answers, choice_answers}
+use Rattle.root_search.specs.Reads.{read_answer, read_answers}
 use Rattle.root_search.specs.Readings.{reading_of, readings}
-use Rattle.root_search.specs.Targets.{rows_give, shared, mask_of, target_of, targets, each_found, bits_give}
+use Rattle.root_search.specs.Targets.{rows_give, shared, target_of, targets, each_found, bits_give}
 use Rattle.root_search.specs.Wanted.{Looked, AreWide, has_enough, is_within, may_be_wanted, may_want}
 use Rattle.root_search.proofs.BitLaws.{given_by_bits, all_follow, found_is, total_is, sum_targets}
 use Rattle.root_search.proofs.CountLaws.{within, are_within, within_most, given_within}

@@ -11,12 +11,7 @@ use value_core::{OutOfMemory, copied};
 
 // Appends so many bits from a place on.
 #[tactic(auto, using(fill_core::proofs::MaskLaws::take_bit))]
-fn push_bits(
-    out: &mut Vec<bool>,
-    bits: &BitRow,
-    from: usize,
-    len: usize,
-) -> Result<(), OutOfMemory>
+fn push_bits(out: &mut Vec<bool>, bits: &BitRow, from: usize, len: usize) -> Result<(), OutOfMemory>
     requires { from + len ≤ length bits.now }
     ensures { OnOk result (out.new.items ≡ out.old.items ++ take len (drop from bits.now)) }
 {

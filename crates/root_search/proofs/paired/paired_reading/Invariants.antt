@@ -1,4 +1,4 @@
-use Rattle.std.proofs.Common.{◌≡◌, ◌++◌, map, take}
+use Rattle.std.proofs.Common.{◌≡◌, map, take}
 use Rattle.root_search.specs.Wanted.{paired_target}
 use Rattle.root_search.proofs.paired.paired_reading.Given as goal
 

@@ -1,4 +1,4 @@
-use Rattle.std.proofs.Common.{◌≡◌, ◌∙◌, ◌+◌, ◌++◌, ◌∷◌, [], Bool, ap, sym, arith, append_assoc, take, drop, length, ◌<◌}
+use Rattle.std.proofs.Common.{◌≡◌, ◌∙◌, ◌+◌, ◌++◌, ◌∷◌, [], ap, sym, arith, append_assoc, take, drop, length, ◌<◌}
 use Rattle.std.specs.Prelude.{unwrap_or, slice_get, false}
 use Rattle.fill_core.proofs.MaskLaws.{take_bit}
 use Rattle.root_search.proofs.paired.push_bits.Goals as goal

@@ -1,11 +1,11 @@
-use Rattle.std.proofs.Common.{◌≡◌, ◌*◌, ℕ, map, ap, length, refl, subst, sym, Ok, ◌∙◌, rules}
+use Rattle.std.proofs.Common.{◌≡◌, ◌*◌, map, ap, length, refl, subst, sym, Ok, ◌∙◌, rules}
 use Rattle.std.specs.Prelude.{filter}
 use Rattle.std.proofs.lemmas.Result.{on_ok_weaker}
 use Rattle.bit_classes.specs.Sieves.{IsSieve}
 use Rattle.query_core.specs.Joins.{crossed, crossed_and_padded}
 use Rattle.query_core.specs.declared.kinds.Pairing.TheVariants.{Left}
 use Rattle.fill_core.specs.Choices.{hole_choices, is_wanted, left_choice}
-use Rattle.fill_core.specs.Offers.{pair_candidates, GivesNothing}
+use Rattle.fill_core.specs.Offers.{pair_candidates}
 use Rattle.fill_core.specs.View.{entry_filled}
 use Rattle.fill_core.proofs.MaskLaws.{length_crossed, length_padded}
 use Rattle.fill_core.proofs.OfferLaws.{no_left_joins, same_pair}

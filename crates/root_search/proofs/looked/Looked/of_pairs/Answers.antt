@@ -1,4 +1,4 @@
-use Rattle.std.proofs.Common.{◌≡◌, ◌+◌, ◌-◌, ◌*◌, ℕ, arith, map, sym, ap, subst, ◌∙◌}
+use Rattle.std.proofs.Common.{◌≡◌, ◌+◌, ◌-◌, ◌*◌, arith, map, sym, ap, subst, ◌∙◌}
 use Rattle.root_search.specs.Wanted.{Looked, AreWide, paired_reading}
 use Rattle.root_search.proofs.PairLaws.{paired_wide}
 use Rattle.root_search.proofs.looked.Looked.of_pairs.Goals as goal
