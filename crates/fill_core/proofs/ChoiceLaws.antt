@@ -1,11 +1,9 @@
 -- The first predicates of classes are the standard ones.
-use Rattle.std.proofs.Common.{◌≡◌, ℕ, zero, suc, ◌+◌, Bool, true, false, not, ◌&&◌, ◌==◌, cond, List, [], ◌∷◌, map, Option, Some, None, refl, sym, ap, subst, ◌∙◌, arith, inl, inr, eq-eqb, length, get_or, ◌<◌, ◌≤◌}
+use Rattle.std.proofs.Common.{◌≡◌, ℕ, zero, suc, ◌+◌, Bool, true, false, not, ◌&&◌, ◌==◌, cond, List, [], ◌∷◌, map, Option, Some, None, refl, sym, ap, subst, ◌∙◌, arith, inl, inr, eq-eqb, length, get_or, ◌<◌}
 use Rattle.std.specs.Prelude.{filter, find, slice_get, if◌then◌else◌}
 use Rattle.std.specs.List.{position_or_len, enumerate_from}
 use Rattle.std.proofs.lemmas.Bool.{cases_Bool, false≢true, eqb-true}
 use Rattle.std.proofs.lemmas.List.{length-map}
-use Rattle.std.proofs.lemmas.List.Filters.{length-filter_both}
-use Rattle.std.proofs.lemmas.List.FromFn.{length-enumerate_from}
 use Rattle.predicate_core.specs.declared.atom.Atom.{Atom}
 use Rattle.value_core.specs.declared.value.Value.{Value}
 use Rattle.value_core.specs.declared.value.ColType.{ColType}
@@ -170,11 +168,6 @@ filter_made q f (x ∷ xs) = by (q (f x)) (filter_made q f xs)
     by : (b : Bool) → filter q (map f xs) ≡ map f (filter (λ y. q (f y)) xs) → (if b then f x ∷ filter q (map f xs) else filter q (map f xs)) ≡ map f (if b then x ∷ filter (λ y. q (f y)) xs else filter (λ y. q (f y)) xs)
     by true rest = ap (λ ys. f x ∷ ys) rest
     by false rest = rest
-
--- every element passes a test that all pass
-pub filter_every : {X : Type 0} (xs : List X) → filter (λ x. true) xs ≡ xs
-filter_every [] = refl
-filter_every (x ∷ xs) = ap (λ ys. x ∷ ys) (filter_every xs)
 
 -- the choices of the classes that may be wanted are the hole's that may be
 pub wanted_are : (task : TaskParts) (types : List ColType) (candidates : List Row) (constants : List Value) (bound width : ℕ) (rows : List (List Bool)) (list : List Pred) (may : Join → List Bool → Bool) (found : List Class)

@@ -1,5 +1,5 @@
 -- Candidate rows with choices, the fillings that they are, and what is gathered of them.
-use Rattle.std.specs.Prelude.{◌≡◌, ℕ, Bool, false, List, length, [], ◌∷◌, ◌++◌, map, flat_map, Option, Some, None}
+use Rattle.std.specs.Prelude.{◌≡◌, ℕ, ◌*◌, Bool, false, List, length, [], ◌∷◌, ◌++◌, map, flat_map, Option, Some, None}
 use Rattle.std.specs.List.{sum_by}
 use Rattle.value_core.specs.declared.value.ColType.{ColType}
 use Rattle.predicate_core.specs.declared.pred.Pred.{Pred}
@@ -12,7 +12,7 @@ use Rattle.query_core.specs.Joins.{crossed, crossed_and_padded}
 use Rattle.query_core.specs.declared.kinds.Pairing.{Pairing}
 use Rattle.query_core.specs.declared.kinds.Pairing.TheVariants.{Join, Left}
 use Rattle.fill_core.specs.Bounds.{Passes}
-use Rattle.fill_core.specs.Choices.{is_wanted}
+use Rattle.fill_core.specs.Choices.{is_wanted, left_choice}
 use Rattle.fill_core.specs.declared.choice.Choice.{Choice}
 
 -- the element, where there is one
@@ -54,3 +54,9 @@ abbrev pub Sifts : {Item : Type 0} → (Filled → List Item) → List ColType �
 Sifts gives types candidates may =
     IsSieve (length candidates) may
     × ((preds : List Pred) (c : Choice) → length c.bits ≡ length candidates → is_wanted may c ≡ false → gives (filled_by types preds candidates c) ≡ [])
+
+-- what may be wanted of the bits of the pairs of so many left and right rows is a sieve, and a choice of theirs that may not be wanted gives nothing as the left join's
+abbrev pub SiftsPairs : {Item : Type 0} → (Filled → List Item) → List ColType → List Row → ℕ → ℕ → (joins.Join → List Bool → Bool) → Type 0
+SiftsPairs gives types candidates lefts rights may =
+    IsSieve (lefts * rights) may
+    × ((preds : List Pred) (c : Choice) → length c.bits ≡ lefts * rights → is_wanted may c ≡ false → gives (filled_by types preds candidates (left_choice lefts rights c)) ≡ [])

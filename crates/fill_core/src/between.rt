@@ -143,7 +143,6 @@ impl Between<'_> {
     }
 
     // Hands the left joins of two entries to a receiver.
-    #[tactic(auto, using(crate::proofs::OfferLaws::left_joins_are, crate::proofs::OfferLaws::pairs_wide, crate::proofs::OfferLaws::lefts_wide))]
     fn hand_left_joins<R: Receiver>(
         &self,
         alloc: Global,
@@ -169,7 +168,13 @@ impl Between<'_> {
         };
         let preds = parts.preds(alloc)?;
         let pairs = cross_rows(alloc, lefts, rights)?;
-        let of_pairs = self.hole(pairs.as_slice()).choices(alloc)?;
+        let told = receiver.of_pairs(alloc, &findings, lefts.len(), rights.len())?;
+        let sifter = Sifter {
+            receiver,
+            findings: &told,
+            width: pairs.len(),
+        };
+        let of_pairs = self.hole(pairs.as_slice()).wanted(alloc, &sifter)?;
         let choices = left_choices(alloc, lefts.len(), rights.len(), of_pairs.as_slice())?;
         let offer = Offer {
             types: self.types,

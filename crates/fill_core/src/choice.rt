@@ -3,7 +3,7 @@ ghost use Rattle.predicate_core.specs.declared.pred.Pred.TheVariants.{One};
 ghost use Rattle.bit_classes.specs.Laws.{kept_vector};
 ghost use Rattle.fill_core.specs.Choices.{class_choice, drops_some, every};
 
-use bit_classes::{Class, Every, Sieve, wanted_classes};
+use bit_classes::{Class, Sieve, wanted_classes};
 use bit_rows::BitRow;
 use predicate_core::{Atom, Pred, PredList, atoms, keeps, preds};
 use sqlite_items::Items;
@@ -123,14 +123,6 @@ impl Hole<'_, '_> {
         let found = wanted_classes(alloc, sieve, width, rows.as_slice(), bound)?;
         let list = preds(alloc, atoms.as_slice(), bound)?;
         class_choices(alloc, &list, found)
-    }
-
-    /// All of them.
-    pub fn choices(&self, alloc: Global) -> Result<Vec<Choice>, OutOfMemory>
-        ensures { IfOk result (λ cs. cs.items ≡ hole_choices self.now.task.now self.now.types.now self.now.candidates.now) }
-    {
-        let width = self.candidates.len();
-        self.wanted(alloc, &Every { width })
     }
 
     /// Those that may be wanted and leave some row out, as a filter's do.

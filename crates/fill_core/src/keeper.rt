@@ -114,6 +114,8 @@ impl Receiver for Keeper<'_> {
 
     ghost found = { λ k types candidates findings. Unit };
 
+    ghost about = { λ k findings n. Unit };
+
     ghost may = { λ k findings join bits. true };
 
     fn is_shut_pair(&self, _seen: &PairSeen<'_>) -> bool {
@@ -131,6 +133,16 @@ impl Receiver for Keeper<'_> {
         _candidates: &[Tuple],
     ) -> Result<Option<()>, OutOfMemory> {
         Ok(Some(()))
+    }
+
+    fn of_pairs(
+        &self,
+        _alloc: Global,
+        _findings: &(),
+        _lefts: usize,
+        _rights: usize,
+    ) -> Result<(), OutOfMemory> {
+        Ok(())
     }
 
     fn may(&self, _findings: &(), _join: Join, _row: &BitRow) -> bool {

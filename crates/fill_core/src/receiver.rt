@@ -1,4 +1,4 @@
-ghost use Rattle.std.specs.Prelude.{◌≡◌, ℕ, Bool, List, Option, All, length, Ok, Err, Some, None, true, IfOk, IfSome, OnOk};
+ghost use Rattle.std.specs.Prelude.{◌≡◌, ◌+◌, ◌*◌, ℕ, Bool, List, Option, All, length, Ok, Err, Some, None, true, IfOk, IfSome, OnOk};
 ghost use Rattle.value_core.specs.declared.value.ColType as values;
 ghost use Rattle.table_core.specs.Rows.{Row};
 ghost use Rattle.query_core.specs.Filled.{Filled};
@@ -6,7 +6,7 @@ ghost use Rattle.query_core.specs.Groups.{grouped};
 ghost use Rattle.query_core.specs.declared.agg.Agg as aggs;
 ghost use Rattle.bit_classes.specs.declared.join.Join as joins;
 ghost use Rattle.fill_core.specs.declared.end.FillEnd.TheVariants as ends;
-ghost use Rattle.fill_core.specs.Offers.{filled_by_all, pair_candidates, Gathered, GivesNothing, WholeGivesNothing, Sifts, TooMuch};
+ghost use Rattle.fill_core.specs.Offers.{filled_by_all, pair_candidates, Gathered, GivesNothing, WholeGivesNothing, Sifts, SiftsPairs, TooMuch};
 
 use crate::end::FillEnd;
 use crate::offer::Offer;
@@ -47,6 +47,9 @@ pub trait Receiver {
     // What its findings are about candidate rows of columns of these types.
     ghost found: { Self → List values.ColType → List Row → Self.Findings → Type 0 };
 
+    // Of how many candidates its findings tell.
+    ghost about: { Self → Self.Findings → ℕ → Type 0 };
+
     // Of which bits of these candidates predicates that AND joins may be wanted, and of which those that OR joins, by its findings.
     ghost may: { Self → Self.Findings → joins.Join → List Bool → Bool };
 
@@ -69,8 +72,20 @@ pub trait Receiver {
     ) -> Result<Option<Self::Findings>, OutOfMemory>
         requires typed { typed self.now types.now }
         ensures found { IfOk result (λ findings. IfSome findings (found self.now types.now candidates.now)) }
+        ensures about { IfOk result (λ findings. IfSome findings (λ f. about self.now f (length candidates.now))) }
         ensures sifts { IfOk result (λ findings. IfSome findings (λ f. Sifts (gives self.now) types.now candidates.now (may self.now f))) }
         ensures nothing { result ≡ Ok None → GivesNothing (gives self.now) types.now candidates.now };
+
+    /// What it found out about the candidate rows of a left join of so many left and right rows, told of their pairs alone.
+    fn of_pairs(
+        &self,
+        alloc: Global,
+        findings: &Self::Findings,
+        lefts: usize,
+        rights: usize,
+    ) -> Result<Self::Findings, OutOfMemory>
+        requires { about self.now findings.now (lefts * rights + lefts) }
+        ensures { IfOk result (λ f. (types : List values.ColType) (candidates : List Row) → length candidates ≡ lefts * rights + lefts → found self.now types candidates findings.now → SiftsPairs (gives self.now) types candidates lefts rights (may self.now f)) };
 
     /// Whether predicates that are joined so, and keep candidates of these bits, may be wanted, by what it found out. It takes no memory.
     fn may(&self, findings: &Self::Findings, join: Join, row: &BitRow) -> bool

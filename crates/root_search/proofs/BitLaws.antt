@@ -69,7 +69,7 @@ given_by_bits picks true bits candidates output long = firsts_is picks bits cand
 given_by_bits picks false bits candidates output long = all_is picks bits candidates output long
 
 -- at most as many bits are set in both of two rows as in one
-shared_most : (bits mask : List Bool) → shared bits mask ≤ ones mask
+pub shared_most : (bits mask : List Bool) → shared bits mask ≤ ones mask
 shared_most [] mask = omega arith
 shared_most (b ∷ bits) [] = omega arith
 shared_most (true ∷ bits) (m ∷ mask) = omega (arith, shared_most bits mask, ones_next m (and_bits bits mask), ones_next m mask)

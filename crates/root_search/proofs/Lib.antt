@@ -3,6 +3,7 @@ pub mod BitLaws
 pub mod CountLaws
 pub mod HitLaws
 pub mod ManyLaws
+pub mod PairLaws
 pub mod ReadLaws
 pub mod ReadingLaws
 pub mod RowCountLaws

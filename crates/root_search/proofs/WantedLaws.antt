@@ -1,13 +1,13 @@
 -- What choices of candidate rows may be wanted: a choice that gives the output is, and so is what it is joined of.
-use Rattle.std.proofs.Common.{◌≡◌, refl, sym, ap, subst, ◌∙◌, ℕ, ◌+◌, ◌-◌, ◌<◌, ◌≤◌, drop, get_or, Bool, true, false, not, ◌&&◌, ◌||◌, ◌==◌, List, [], ◌∷◌, ◌++◌, length, map, inl, inr, arith}
-use Rattle.std.specs.Prelude.{nat_le, nat_lt, All, filter, flat_map, if◌then◌else◌}
+use Rattle.std.proofs.Common.{◌≡◌, refl, sym, ap, subst, ◌∙◌, ℕ, ◌+◌, ◌-◌, ◌<◌, ◌≤◌, drop, get_or, Bool, true, false, ◌&&◌, ◌||◌, ◌==◌, List, [], ◌∷◌, ◌++◌, length, map, inl, inr, arith}
+use Rattle.std.specs.Prelude.{nat_le, nat_lt, filter, flat_map, if◌then◌else◌}
 use Rattle.std.specs.List.{list_all, list_any, sum_by}
 use Rattle.std.proofs.lemmas.List.{at_drop_more, length-map}
-use Rattle.std.proofs.lemmas.Bool.{and_parts, and_from, both_ways, eqb-true, eq-eqb, leb-true, le-leb, false≢true, cases_Bool}
+use Rattle.std.proofs.lemmas.Bool.{and_parts, and_from, eqb-true, eq-eqb, leb-true, le-leb, false≢true, cases_Bool}
 use Rattle.value_core.specs.declared.value.ColType.{ColType}
 use Rattle.predicate_core.specs.declared.pred.Pred.{Pred}
 use Rattle.predicate_core.proofs.OnceLists.{In, in_map}
-use Rattle.table_core.specs.Rows.{Row, TableData, types_of}
+use Rattle.table_core.specs.Rows.{Row, types_of}
 use Rattle.table_core.specs.Bag.{count}
 use Rattle.table_core.specs.declared.task.TaskParts.{TaskParts}
 use Rattle.query_core.specs.Firsts.{projected, firsts}
@@ -31,9 +31,9 @@ use Rattle.map_walk.proofs.OpenLaws.{any_in, any_follow}
 use Rattle.map_walk.proofs.RowCountLaws.{both_same}
 use Rattle.map_walk.proofs.WalkLaws.{ones_next}
 use Rattle.root_search.specs.Answers.{answers_on}
-use Rattle.root_search.specs.Reads.{read_answer, read_answers, choice_answers}
+use Rattle.root_search.specs.Reads.{read_answer, read_answers}
 use Rattle.root_search.specs.Readings.{reading_of, readings}
-use Rattle.root_search.specs.Targets.{rows_give, shared, mask_of, target_of, targets, each_found, bits_give}
+use Rattle.root_search.specs.Targets.{rows_give, shared, target_of, targets, each_found, bits_give}
 use Rattle.root_search.specs.Wanted.{Looked, AreWide, has_enough, is_within, may_be_wanted, may_want}
 use Rattle.root_search.proofs.BitLaws.{given_by_bits, all_follow, found_is, total_is, sum_targets}
 use Rattle.root_search.proofs.CountLaws.{within, are_within, within_most, given_within}
@@ -41,7 +41,7 @@ use Rattle.root_search.proofs.ReadLaws.{choice_is, readings_wide}
 
 -- ---- AND takes candidates away
 
-shared_first : (a b mask : List Bool) → shared (and_bits a b) mask ≤ shared a mask
+pub shared_first : (a b mask : List Bool) → shared (and_bits a b) mask ≤ shared a mask
 shared_first [] b mask = omega arith
 shared_first (x ∷ a) [] mask = omega arith
 shared_first (x ∷ a) (y ∷ b) [] = omega arith
@@ -49,7 +49,7 @@ shared_first (true ∷ a) (true ∷ b) (m ∷ mask) = omega (arith, shared_first
 shared_first (true ∷ a) (false ∷ b) (m ∷ mask) = omega (arith, shared_first a b mask, ones_next false (and_bits (and_bits a b) mask), ones_next m (and_bits a mask))
 shared_first (false ∷ a) (y ∷ b) (m ∷ mask) = omega (arith, shared_first a b mask, ones_next false (and_bits (and_bits a b) mask), ones_next false (and_bits a mask))
 
-shared_second : (a b mask : List Bool) → shared (and_bits a b) mask ≤ shared b mask
+pub shared_second : (a b mask : List Bool) → shared (and_bits a b) mask ≤ shared b mask
 shared_second [] b mask = omega arith
 shared_second (x ∷ a) [] mask = omega arith
 shared_second (x ∷ a) (y ∷ b) [] = omega arith
@@ -59,7 +59,7 @@ shared_second (false ∷ a) (true ∷ b) (m ∷ mask) = omega (arith, shared_sec
 shared_second (false ∷ a) (false ∷ b) (m ∷ mask) = omega (arith, shared_second a b mask, ones_next false (and_bits (and_bits a b) mask), ones_next false (and_bits b mask))
 
 -- bits that have enough for a reading have so where they keep more
-enough_more : (bits more : List Bool) → ((mask : List Bool) → shared bits mask ≤ shared more mask) → (r : Reading) → has_enough bits r ≡ true → has_enough more r ≡ true
+pub enough_more : (bits more : List Bool) → ((mask : List Bool) → shared bits mask ≤ shared more mask) → (r : Reading) → has_enough bits r ≡ true → has_enough more r ≡ true
 enough_more bits more most r has =
     all_follow (λ t. nat_le t.copies (shared bits t.mask)) (λ t. nat_le t.copies (shared more t.mask)) r.targets
     (λ t e. le-leb _ _ (let below = leb-true _ _ e in let m = most t.mask in omega (arith, below, m))) has
@@ -93,7 +93,7 @@ module _ (picks : List ℕ) (candidates output : List Row) where
     places : sum_by (λ t. shared bits t.mask) (targets picks candidates output) ≡ sum_by (count (selected picks (masked bits candidates))) (firsts output)
     places = sum_targets (λ t. shared bits t.mask) (target_of picks candidates output) (firsts output) ∙ ap (λ f. sum_by f (firsts output)) (sym (found_is picks bits candidates output long))
 
-    within_from : ((x : Row) → In x (selected picks (masked bits candidates)) → In x output) → is_within bits (reading_of candidates output picks) ≡ true
+    pub within_from : ((x : Row) → In x (selected picks (masked bits candidates)) → In x output) → is_within bits (reading_of candidates output picks) ≡ true
     within_from each =
         le-leb _ _ (let all = within (selected picks (masked bits candidates)) output each in let total = total_is picks bits candidates output long in omega (arith, all, total, places))
 
@@ -102,7 +102,7 @@ module _ (picks : List ℕ) (candidates output : List Row) where
         are_within (selected picks (masked bits candidates)) output x
         (let below = leb-true _ _ is in let most = within_most (selected picks (masked bits candidates)) output in let total = total_is picks bits candidates output long in omega (arith, below, most, total, places)) i
 
-  within_less : (a b : List Bool) → length a ≡ length candidates → length b ≡ length candidates → length (or_bits a b) ≡ length candidates → is_within (or_bits a b) (reading_of candidates output picks) ≡ true
+  pub within_less : (a b : List Bool) → length a ≡ length candidates → length b ≡ length candidates → length (or_bits a b) ≡ length candidates → is_within (or_bits a b) (reading_of candidates output picks) ≡ true
       → (is_within a (reading_of candidates output picks) ≡ true) × (is_within b (reading_of candidates output picks) ≡ true)
   within_less a b long_a long_b long is =
       let each = within_to (or_bits a b) long is in (
@@ -112,7 +112,7 @@ module _ (picks : List ℕ) (candidates output : List Row) where
 
 -- ---- a choice that gives the output may be wanted
 
-given_enough : (distinct : Bool) (wanted : ℕ) (bits : List Bool) (ts : List Target) → bits_give distinct wanted bits ts ≡ true → list_all (λ t. nat_le t.copies (shared bits t.mask)) ts ≡ true
+pub given_enough : (distinct : Bool) (wanted : ℕ) (bits : List Bool) (ts : List Target) → bits_give distinct wanted bits ts ≡ true → list_all (λ t. nat_le t.copies (shared bits t.mask)) ts ≡ true
 given_enough true wanted bits ts given =
     all_follow (λ t. nat_le 1 (shared bits t.mask) && (t.copies == 1)) (λ t. nat_le t.copies (shared bits t.mask)) ts
     (λ t h. let parts = and_parts (nat_le 1 (shared bits t.mask)) (t.copies == 1) h in le-leb _ _ (omega (arith, leb-true _ _ parts.0, eqb-true _ _ parts.1)))
@@ -137,7 +137,7 @@ module _ (types : List ColType) (candidates : List Row) (task : TaskParts) (bits
       let by_rows : rows_give h.0 distinct (masked bits candidates) task.output.rows ≡ true = given_by_bits h.0 distinct bits candidates task.output.rows long ∙ ap (λ (q : Reading). bits_give distinct (length task.output.rows) bits q.targets) (sym h.2) ∙ given in
       any_in (is_within bits) r its i (ap (is_within bits) h.2 ∙ within_from h.0 candidates task.output.rows bits long (given_within distinct rows task.output.rows by_rows))
 
-flat_map_none : {X Y : Type 0} (f : X → List Y) (xs : List X) → ((x : X) → In x xs → f x ≡ []) → flat_map f xs ≡ []
+pub flat_map_none : {X Y : Type 0} (f : X → List Y) (xs : List X) → ((x : X) → In x xs → f x ≡ []) → flat_map f xs ≡ []
 flat_map_none f [] none = refl
 flat_map_none f (x ∷ xs) none = rw (none x (inl refl)) (flat_map_none f xs (λ y i. none y (inr i)))
 

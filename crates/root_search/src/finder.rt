@@ -210,6 +210,8 @@ impl Receiver for Root<'_> {
 
     ghost found = { λ f types candidates looked. looked.readings ≡ readings types candidates f.task.now.output };
 
+    ghost about = { λ f looked n. looked.width ≡ n };
+
     ghost may = { λ f looked join bits. may_want looked join bits };
 
     fn is_shut_pair(&self, seen: &PairSeen<'_>) -> bool {
@@ -250,6 +252,16 @@ impl Receiver for Root<'_> {
             return Ok(None);
         }
         Ok(Some(Looked::new(list, candidates.len())))
+    }
+
+    fn of_pairs(
+        &self,
+        alloc: Global,
+        findings: &Looked,
+        lefts: usize,
+        rights: usize,
+    ) -> Result<Looked, OutOfMemory> {
+        findings.of_pairs(alloc, lefts, rights)
     }
 
     fn may(&self, findings: &Looked, join: Join, row: &BitRow) -> bool {

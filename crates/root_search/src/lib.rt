@@ -5,6 +5,7 @@ mod finder;
 mod hits;
 mod laws;
 mod looked;
+mod paired;
 mod refill;
 mod root;
 mod target;

@@ -4,12 +4,15 @@ ghost use Rattle.map_walk.specs.Targets.{ones};
 ghost use Rattle.root_search.specs.Targets.{shared};
 ghost use Rattle.root_search.specs.Wanted.{AreWide, has_enough, is_within};
 
+use crate::paired::paired_readings;
 use crate::target::shared;
 use bit_classes::Join;
 use bit_rows::BitRow;
 use map_walk::{Reading, Target};
 use sqlite_items::Items;
+use std::alloc::Global;
 use std::marker::Model;
+use value_core::OutOfMemory;
 
 /// The readings of so many candidate rows, which tell what choices of them may be wanted.
 #[derive(Drop)]
@@ -80,8 +83,8 @@ fn some_are_within(bits: &BitRow, readings: &[Reading]) -> bool
 }
 
 impl Looked {
-    ghost use Rattle.std.specs.Prelude.{◌≡◌};
-    ghost use Rattle.root_search.specs.Wanted.{AreWide, may_want};
+    ghost use Rattle.std.specs.Prelude.{◌≡◌, ◌+◌, ◌*◌, IfOk};
+    ghost use Rattle.root_search.specs.Wanted.{AreWide, may_want, paired_looked};
 
     /// These readings of so many candidates.
     pub fn new(readings: Items<Reading>, width: usize) -> Looked
@@ -95,6 +98,20 @@ impl Looked {
         ensures { result.now ≡ self.now.readings }
     {
         self.readings.as_slice()
+    }
+
+    /// What they tell of the pairs alone, of the candidates of a left join of so many left and right rows.
+    pub fn of_pairs(
+        &self,
+        alloc: Global,
+        lefts: usize,
+        rights: usize,
+    ) -> Result<Looked, OutOfMemory>
+        requires { self.now.width ≡ lefts * rights + lefts }
+        ensures { IfOk result (λ l. l ≡ paired_looked lefts rights self.now) }
+    {
+        let readings = paired_readings(alloc, lefts, rights, self.readings.as_slice())?;
+        Ok(Looked::new(readings, self.width - lefts))
     }
 
     /// Whether predicates that are joined so, and keep candidates of these bits, may be wanted. It takes no memory.

@@ -6,7 +6,7 @@ use Rattle.fill_core.specs.View.{entry_filled}
 use Rattle.fill_core.proofs.OfferLaws.{no_joins, same_pair}
 use Rattle.fill_core.proofs.SiftLaws.{joins_alike, joins_accepted, offered_wide, gathered_alike, too_much_alike, same_hole, sifts_there}
 use Rattle.query_core.specs.declared.kinds.Pairing.TheVariants.{Join}
-use Rattle.fill_core.specs.Offers.{pair_candidates, GivesNothing}
+use Rattle.fill_core.specs.Offers.{pair_candidates}
 use Rattle.fill_core.proofs.between.Between.hand_joins.Goals as goal
 
 pub returns-in_default-clause-gathered : goal.returns-in_default-clause-gathered

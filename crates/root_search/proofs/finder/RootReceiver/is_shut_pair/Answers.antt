@@ -1,5 +1,4 @@
-use Rattle.std.proofs.Common.{◌≡◌, Bool, ◌==◌, length, true, false, sym, ap, ◌∙◌, rules}
-use Rattle.std.specs.List.{list_all}
+use Rattle.std.proofs.Common.{◌≡◌, Bool, length, true, false, sym, ap, ◌∙◌, rules}
 use Rattle.query_core.specs.View.{tree}
 use Rattle.table_core.specs.Rows.{TableData, types_of}
 use Rattle.map_walk.specs.Readings.{row_has}
